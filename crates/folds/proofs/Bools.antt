@@ -1,0 +1,47 @@
+-- Facts on Bools that the laws of the folds and their callers share.
+use mathlib.Core.Bool.{Bool, true, false, _&&_, _||_, not, false≢true}
+use mathlib.Core.Path.{_≡_, refl, sym}
+use mathlib.Core.Logic.{_⊎_, inl, inr, ⊎-elim}
+use Prim.Native.Nat.{ℕ}
+use borrow.Author.Tests.{lt-ltb, le-ltb, leb-true, leb-false}
+use lib.Dec.{ltb, leb}
+
+pub and-left : (a b : Bool) → (a && b) ≡ true → a ≡ true
+and-left true b h = refl
+and-left false b h = h
+
+pub and-right : (a b : Bool) → (a && b) ≡ true → b ≡ true
+and-right true b h = h
+and-right false b h = absurd (false≢true h)
+
+pub or-left : (a b : Bool) → (a || b) ≡ false → a ≡ false
+or-left true b h = h
+or-left false b h = refl
+
+pub or-right : (a b : Bool) → (a || b) ≡ false → b ≡ false
+or-right true b h = absurd (false≢true (sym h))
+or-right false b h = h
+
+pub or-either : (a b : Bool) → (a || b) ≡ true → (a ≡ true) ⊎ (b ≡ true)
+or-either true b h = inl refl
+or-either false b h = inr h
+
+-- a test is met or not
+pub met-or-not : (a : Bool) → (a ≡ true) ⊎ (a ≡ false)
+met-or-not true = inl refl
+met-or-not false = inr refl
+
+pub clash : {A : Type 0} (a : Bool) → a ≡ true → a ≡ false → A
+clash true h k = absurd (false≢true (sym k))
+clash false h k = absurd (false≢true h)
+
+-- two tests that are met together are one
+pub same-test : (a b : Bool) → (a ≡ true → b ≡ true) → (b ≡ true → a ≡ true) → a ≡ b
+same-test true b h k = sym (h refl)
+same-test false true h k = k refl
+same-test false false h k = refl
+
+-- not below is at most the other way round
+pub not-ltb : (a b : ℕ) → not (ltb a b) ≡ leb b a
+not-ltb a b =
+    ⊎-elim (λ h. rw (le-ltb a b (leb-true b a h), h)) (λ h. rw (lt-ltb a b (leb-false b a h), h)) (met-or-not (leb b a))

@@ -1,0 +1,234 @@
+-- What the check's answer says: the chain of 1 to 9 in its two halves, and, of an accepted base, the range of each field.
+use Prim.Native.Nat.{ℕ, _+_, _*_, _^_, _<_, _≤_}
+use mathlib.Core.Bool.{Bool, true, false, _&&_, _||_, not, cond}
+use mathlib.Core.Path.{_≡_, refl, sym, _∙_}
+use mathlib.Core.List.{List}
+use native.Mathlib.Omega.{arith}
+use native.Mathlib.Nat.{suc-ne-zero, mul-suc, mul-comm, div-mul-le-self, mul-le-mul-left, le-trans}
+use mathlib.Core.Logic.{_⊎_, inl, inr}
+use borrow.Author.Tests.{ltb-true, ltb-false, eqb-true, not-false, lt-ltb}
+use lib.Dec.{ltb, eqb}
+use lib.ListN.{length}
+use Rattle.folds.proofs.Bools.{or-left, or-right, clash}
+use Rattle.folds.proofs.Tests.{any-at}
+use Rattle.reader.specs.Fields.{senior, junior, parameter, clausePermission, clauseLength, conditionAttribute, conditionOperator, conditionValue, contextNumber, contextLength, contextParameter, contextOperator, contextValue, policyRole, policyPermission, policyWeight, policyType, policyContext, exclusionKind, exclusionFirst, exclusionSecond}
+use Rattle.reader.specs.Codes.{parameterOk}
+use Rattle.reader.specs.Tables.{width, hierarchy, users, clauses, contexts, policies, exclusions, roleCount, tableOf, recordCount, lengthBad, lettersBad, trailerBad, frameRefusal}
+use Rattle.reader.specs.Rules.{rangeOf, outside, conditionBad, clauseConditionBad, clauseBad, contextConditionBad, contextSlotBad, contextBad, policyBad, exclusionBad, hierarchyRecordBad, userBad, hierarchyBad, usersBad, clausesBad, contextsBad, policiesBad, exclusionsBad, permissionCount, recordsRefusal, refusalOf}
+
+-- refusals 1 to 3 come first
+pub refused-frame : (b : List ℕ) → (frameRefusal b ≡ 0 → ⊥) → refusalOf b ≡ frameRefusal b
+unfolding refusalOf frameRefusal
+refused-frame b = by (lengthBad b) (lettersBad b) (trailerBad b) (recordsRefusal b)
+  where
+    by : (x y z : Bool) (r : ℕ) → (cond {A = ℕ} x 1 (cond y 2 (cond z 3 0)) ≡ 0 → ⊥) → cond {A = ℕ} x 1 (cond y 2 (cond z 3 r)) ≡ cond x 1 (cond y 2 (cond z 3 0))
+    by true y z r h = refl
+    by false true z r h = refl
+    by false false true r h = refl
+    by false false false r h = absurd (h refl)
+
+-- then those of the records
+pub refused-records : (b : List ℕ) → frameRefusal b ≡ 0 → refusalOf b ≡ recordsRefusal b
+unfolding refusalOf frameRefusal
+refused-records b = by (lengthBad b) (lettersBad b) (trailerBad b) (recordsRefusal b)
+  where
+    by : (x y z : Bool) (r : ℕ) → cond {A = ℕ} x 1 (cond y 2 (cond z 3 0)) ≡ 0 → cond {A = ℕ} x 1 (cond y 2 (cond z 3 r)) ≡ r
+    by true y z r h = absurd (suc-ne-zero 0 h)
+    by false true z r h = absurd (suc-ne-zero 1 h)
+    by false false true r h = absurd (suc-ne-zero 2 h)
+    by false false false r h = refl
+
+-- a base that passes the check has its tables
+pub accepted-frame : (b : List ℕ) → refusalOf b ≡ 0 → frameRefusal b ≡ 0
+unfolding refusalOf frameRefusal
+accepted-frame b = by (lengthBad b) (lettersBad b) (trailerBad b) (recordsRefusal b)
+  where
+    by : (x y z : Bool) (r : ℕ) → cond {A = ℕ} x 1 (cond y 2 (cond z 3 r)) ≡ 0 → cond {A = ℕ} x 1 (cond y 2 (cond z 3 0)) ≡ 0
+    by true y z r h = h
+    by false true z r h = h
+    by false false true r h = h
+    by false false false r h = refl
+
+-- where a chain of six gives 0, its tests are all false
+none-of : (p q r s t u : Bool) →
+    cond {A = ℕ} p 4 (cond q 5 (cond r 6 (cond s 7 (cond t 8 (cond u 9 0))))) ≡ 0 →
+    (p ≡ false) × (q ≡ false) × (r ≡ false) × (s ≡ false) × (t ≡ false) × (u ≡ false)
+none-of true q r s t u h = absurd (suc-ne-zero 3 h)
+none-of false true r s t u h = absurd (suc-ne-zero 4 h)
+none-of false false true s t u h = absurd (suc-ne-zero 5 h)
+none-of false false false true t u h = absurd (suc-ne-zero 6 h)
+none-of false false false false true u h = absurd (suc-ne-zero 7 h)
+none-of false false false false false true h = absurd (suc-ne-zero 8 h)
+none-of false false false false false false h = (refl, refl, refl, refl, refl, refl)
+
+-- record i of table t lies in the table's bytes
+pub record-within : (t : ℕ) (r : List ℕ) (i : ℕ) → i < recordCount t r → width t * i + width t ≤ length r
+record-within t r i h =
+    rw (← mul-suc (width t) i) (le-trans (mul-le-mul-left (width t) h) (rw mul-comm (div-mul-le-self (length r) (width t))))
+
+-- what the rules say of the records of an accepted base
+pub record HierarchyFine (R : ℕ) (h : List ℕ) (i : ℕ) : Type 0 where
+  pub down : senior h i < junior h i
+  pub role : junior h i < R
+
+-- attributes 0 to 2 with operators 0 to 5, or attribute 3 with operator 6 and a set of roles below R
+pub record ConditionFine (R attribute operator value : ℕ) : Type 0 where
+  pub attribute-le : attribute ≤ 3
+  pub number : attribute < 3 → operator ≤ 5
+  pub set : attribute ≡ 3 → (operator ≡ 6) × (value < 2 ^ R)
+
+pub record ClauseFine (R P : ℕ) (k : List ℕ) (i : ℕ) : Type 0 where
+  pub permission : clausePermission k i < P
+  pub some : 1 ≤ clauseLength k i
+  pub at-most : clauseLength k i ≤ 4
+  pub condition : (j : ℕ) → j < clauseLength k i → ConditionFine R (conditionAttribute k i j) (conditionOperator k i j) (conditionValue k i j)
+
+pub record ContextConditionFine (p operator value : ℕ) : Type 0 where
+  pub parameter-le : p ≤ 2
+  pub operator-le : operator ≤ 5
+  pub range : value < rangeOf p
+
+pub record ContextFine (c : List ℕ) (i : ℕ) : Type 0 where
+  pub number : contextNumber c i ≤ 15
+  pub some : 1 ≤ contextLength c i
+  pub at-most : contextLength c i ≤ 3
+  pub condition : (j : ℕ) → j < contextLength c i → ContextConditionFine (contextParameter c i j) (contextOperator c i j) (contextValue c i j)
+
+pub record PolicyFine (R P : ℕ) (a : List ℕ) (i : ℕ) : Type 0 where
+  pub role : policyRole a i < R
+  pub permission : policyPermission a i < P
+  pub weight-pos : 1 ≤ policyWeight a i
+  pub weight-le : policyWeight a i ≤ 5
+  pub type-le : policyType a i ≤ 1
+  pub context : (policyContext a i ≤ 15) ⊎ (policyContext a i ≡ 255)
+
+pub record ExclusionFine (R P : ℕ) (x : List ℕ) (i : ℕ) : Type 0 where
+  pub kind-le : exclusionKind x i ≤ 1
+  pub rising : exclusionFirst x i < exclusionSecond x i
+  pub there : exclusionSecond x i < cond (eqb (exclusionKind x i) 0) R P
+
+-- a context number is 0 to 15, or 255 for none
+number-or-none : (x : ℕ) → (ltb 15 x && not (eqb x 255)) ≡ false → (x ≤ 15) ⊎ (x ≡ 255)
+number-or-none x h = by (ltb 15 x) (eqb x 255) refl refl h
+  where
+    by : (s t : Bool) → ltb 15 x ≡ s → eqb x 255 ≡ t → (s && not t) ≡ false → (x ≤ 15) ⊎ (x ≡ 255)
+    by true true e f k = inr (eqb-true _ _ f)
+    by true false e f k = clash true refl k
+    by false t e f k = inl (ltb-false _ _ e)
+
+-- a test `not (x < y)` that is false
+below : (x y : ℕ) → not (ltb x y) ≡ false → x < y
+below x y h = ltb-true x y (not-false _ h)
+
+condition-fine : (R a o v : ℕ) → conditionBad R a o v ≡ false → ConditionFine R a o v
+unfolding conditionBad
+condition-fine R a o v = by (ltb a 3) refl
+  where
+    by : (t : Bool) → ltb a 3 ≡ t → cond t (ltb 5 o) (not (eqb a 3) || (not (eqb o 6) || not (ltb v (2 ^ R)))) ≡ false → ConditionFine R a o v
+    by true e h =
+        let l : a < 3 = ltb-true _ _ e in
+        record { attribute-le = omega arith; number = λ k. ltb-false _ _ h; set = λ q. absurd (omega arith) }
+    by false e h =
+        let l : 3 ≤ a = ltb-false _ _ e in
+        let q : a ≡ 3 = eqb-true _ _ (not-false _ (or-left _ _ h)) in
+        let k = or-right (not (eqb a 3)) _ h in
+        record {
+          attribute-le = omega arith;
+          number = λ m. absurd (omega arith);
+          set = λ m. (eqb-true _ _ (not-false _ (or-left _ _ k)), below v (2 ^ R) (or-right (not (eqb o 6)) _ k));
+        }
+
+context-condition-fine : (p o v : ℕ) → contextConditionBad p o v ≡ false → ContextConditionFine p o v
+unfolding contextConditionBad
+context-condition-fine p o v h =
+    let k = or-right (ltb 2 p) _ h in
+    record {
+      parameter-le = ltb-false _ _ (or-left _ _ h);
+      operator-le = ltb-false _ _ (or-left _ _ k);
+      range = below _ _ (or-right (ltb 5 o) _ k);
+    }
+
+module _ (R P : ℕ) (r : List ℕ) (i : ℕ) where
+  pub hierarchy-fine : hierarchyBad R r ≡ false → i < recordCount hierarchy r → HierarchyFine R r i
+  unfolding hierarchyBad
+  hierarchy-fine h l =
+      let k = any-at (hierarchyRecordBad R r) _ h i l in
+      record { down = below _ _ (or-left _ _ k); role = below _ _ (or-right (not (ltb (senior r i) (junior r i))) _ k) }
+
+  pub user-fine : usersBad R r ≡ false → i < recordCount users r → parameterOk R (parameter r i) ≡ true
+  unfolding usersBad
+  user-fine h l = not-false _ (any-at (userBad R r) _ h i l)
+
+  pub clause-fine : clausesBad R P r ≡ false → i < recordCount clauses r → ClauseFine R P r i
+  unfolding clausesBad clauseBad clauseConditionBad
+  clause-fine h l =
+      let k = any-at (clauseBad R P r) _ h i l in
+      let k₂ = or-right (not (ltb (clausePermission r i) P)) _ k in
+      let k₃ = or-left _ _ (or-right (outside 1 4 (clauseLength r i)) _ k₂) in
+      let most : clauseLength r i ≤ 4 = ltb-false _ _ (or-right (ltb (clauseLength r i) 1) _ (or-left _ _ k₂)) in
+      record {
+        permission = below _ _ (or-left _ _ k);
+        some = ltb-false _ _ (or-left _ _ (or-left _ _ k₂));
+        at-most = most;
+        condition = λ j m. condition-fine _ _ _ _
+            (rw (lt-ltb _ _ m) at (any-at (clauseConditionBad R r i) 4 k₃ j (omega arith)));
+      }
+
+  pub context-fine : contextsBad r ≡ false → i < recordCount contexts r → ContextFine r i
+  unfolding contextsBad contextBad contextSlotBad
+  context-fine h l =
+      let k = any-at (contextBad r) _ h i l in
+      let k₂ = or-right (ltb 15 (contextNumber r i)) _ k in
+      let k₃ = or-left _ _ (or-right (outside 1 3 (contextLength r i)) _ k₂) in
+      let most : contextLength r i ≤ 3 = ltb-false _ _ (or-right (ltb (contextLength r i) 1) _ (or-left _ _ k₂)) in
+      record {
+        number = ltb-false _ _ (or-left _ _ k);
+        some = ltb-false _ _ (or-left _ _ (or-left _ _ k₂));
+        at-most = most;
+        condition = λ j m. context-condition-fine _ _ _
+            (rw (lt-ltb _ _ m) at (any-at (contextSlotBad r i) 3 k₃ j (omega arith)));
+      }
+
+  pub policy-fine : policiesBad R P r ≡ false → i < recordCount policies r → PolicyFine R P r i
+  unfolding policiesBad policyBad
+  policy-fine h l =
+      let k = any-at (policyBad R P r) _ h i l in
+      let k₂ = or-right (not (ltb (policyRole r i) R)) _ k in
+      let k₃ = or-right (not (ltb (policyPermission r i) P)) _ k₂ in
+      let k₄ = or-right (outside 1 5 (policyWeight r i)) _ k₃ in
+      record {
+        role = below _ _ (or-left _ _ k);
+        permission = below _ _ (or-left _ _ k₂);
+        weight-pos = ltb-false _ _ (or-left _ _ (or-left _ _ k₃));
+        weight-le = ltb-false _ _ (or-right (ltb (policyWeight r i) 1) _ (or-left _ _ k₃));
+        type-le = ltb-false _ _ (or-left _ _ k₄);
+        context = number-or-none (policyContext r i) (or-right (ltb 1 (policyType r i)) _ k₄);
+      }
+
+  pub exclusion-fine : exclusionsBad R P r ≡ false → i < recordCount exclusions r → ExclusionFine R P r i
+  unfolding exclusionsBad exclusionBad
+  exclusion-fine h l =
+      let k = any-at (exclusionBad R P r) _ h i l in
+      let k₂ = or-right (ltb 1 (exclusionKind r i)) _ k in
+      record {
+        kind-le = ltb-false _ _ (or-left _ _ k);
+        rising = below _ _ (or-left _ _ k₂);
+        there = below _ _ (or-right (not (ltb (exclusionFirst r i) (exclusionSecond r i))) _ k₂);
+      }
+
+-- a base that passes the check: its tables are there, and none of their records is bad
+pub record Accepted (b : List ℕ) : Type 0 where
+  pub frame : frameRefusal b ≡ 0
+  pub hierarchy : hierarchyBad (roleCount b) (tableOf b 0) ≡ false
+  pub users : usersBad (roleCount b) (tableOf b 1) ≡ false
+  pub clauses : clausesBad (roleCount b) (permissionCount b) (tableOf b 3) ≡ false
+  pub contexts : contextsBad (tableOf b 4) ≡ false
+  pub policies : policiesBad (roleCount b) (permissionCount b) (tableOf b 5) ≡ false
+  pub exclusions : exclusionsBad (roleCount b) (permissionCount b) (tableOf b 6) ≡ false
+
+pub accepted : (b : List ℕ) → refusalOf b ≡ 0 → Accepted b
+unfolding recordsRefusal
+accepted b ok =
+    let f = accepted-frame b ok in
+    let w = none-of _ _ _ _ _ _ (sym (refused-records b f) ∙ ok) in
+    record { frame = f; hierarchy = w .0; users = w .1; clauses = w .2; contexts = w .3; policies = w .4; exclusions = w .5 }

@@ -1,0 +1,101 @@
+-- What the trailer says of the tables: their lengths and where they lie.
+use Prim.Native.Nat.{ℕ, suc, _+_, _<_, _≤_}
+use mathlib.Core.Bool.{Bool, true, false, cond}
+use mathlib.Core.Path.{_≡_, refl}
+use mathlib.Core.List.{List}
+use native.Mathlib.Omega.{arith}
+use native.Mathlib.Nat.{mul-le-mul, mul-div-cancel, min-eq-left, le-trans, suc-ne-zero}
+use borrow.Author.Tests.{leb-true, ltb-true, ltb-false, eqb-true, not-false, lt-ltb, eq-eqb}
+use lib.Dec.{leb, ltb}
+use lib.ListN.{length, length-take, length-drop}
+use Rattle.folds.specs.Below.{allBelow, anyBelow}
+use Rattle.folds.proofs.Bools.{or-left, or-right}
+use Rattle.folds.proofs.Tests.{all-at, any-at}
+use Rattle.folds.proofs.Numbers.{sum-step, sum-le-sum}
+use Rattle.reader.specs.Tables.{width, limit, trailer, tableOffset, tableCount, tableSize, tableStart, tableBad, tablesBad, rolesBad, roleCount, reservedBad, trailerBad, lengthBad, lettersBad, frameRefusal, partOf, tableOf, recordCount}
+
+pub width-le : (t : ℕ) → t < 7 → width t ≤ 16
+unfolding allBelow
+width-le t h = leb-true _ _ (all-at (λ k. leb (width k) 16) 7 refl t h)
+
+pub width-pos : (t : ℕ) → t < 7 → 0 < width t
+unfolding allBelow
+width-pos t h = ltb-true _ _ (all-at (λ k. ltb 0 (width k)) 7 refl t h)
+
+pub limit-le : (t : ℕ) → t < 7 → limit t ≤ 64
+unfolding allBelow
+limit-le t h = leb-true _ _ (all-at (λ k. leb (limit k) 64) 7 refl t h)
+
+-- a base that has its tables: none of 1 to 3 applies
+pub record Framed (b : List ℕ) : Type 0 where
+  pub long : 36 ≤ length b
+  pub short : length b ≤ 2364
+  pub letters : lettersBad b ≡ false
+  pub roles : rolesBad b ≡ false
+  pub tables : tablesBad b ≡ false
+
+-- the chain's last link: where it gives 0, its tests are all false
+none-of : (x y z : Bool) → cond {A = ℕ} x 1 (cond y 2 (cond z 3 0)) ≡ 0 → (x ≡ false) × (y ≡ false) × (z ≡ false)
+none-of true y z h = absurd (suc-ne-zero 0 h)
+none-of false true z h = absurd (suc-ne-zero 1 h)
+none-of false false true h = absurd (suc-ne-zero 2 h)
+none-of false false false h = (refl, refl, refl)
+
+pub framed : (b : List ℕ) → frameRefusal b ≡ 0 → Framed b
+unfolding frameRefusal lengthBad trailerBad
+framed b h =
+    let w = none-of (lengthBad b) (lettersBad b) (trailerBad b) h in
+    record {
+      long = ltb-false _ _ (or-left _ _ (w .0));
+      short = ltb-false _ _ (or-right (ltb (length b) 36) _ (w .0));
+      letters = w .1;
+      roles = or-left _ _ (w .2);
+      tables = or-right (reservedBad b) _ (or-right (rolesBad b) _ (w .2));
+    }
+
+module _ (b : List ℕ) (ok : frameRefusal b ≡ 0) where
+  -- R is 1 to 8
+  pub roles-range : (1 ≤ roleCount b) × (roleCount b ≤ 8)
+  unfolding rolesBad
+  roles-range =
+      let f = framed b ok in
+      (ltb-false _ _ (or-left _ _ (f .roles)), ltb-false _ _ (or-right (ltb (roleCount b) 1) _ (f .roles)))
+
+  tables-end : tableStart b 7 ≡ trailer b
+  unfolding tablesBad
+  tables-end = eqb-true _ _ (not-false _ (or-right (anyBelow 7 (tableBad b)) _ (framed b ok .tables)))
+
+module _ (b : List ℕ) (ok : frameRefusal b ≡ 0) (t : ℕ) (there : t < 7) where
+  table-fine : tableBad b t ≡ false
+  unfolding tablesBad
+  table-fine = any-at (tableBad b) 7 (or-left (anyBelow 7 (tableBad b)) _ (framed b ok .tables)) t there
+
+  pub count-limit : tableCount b t ≤ limit t
+  count-limit = ltb-false _ _ (or-left _ _ table-fine)
+
+  -- a table has at most 1,024 bytes
+  pub size-le : tableSize b t ≤ 1024
+  size-le = mul-le-mul {n₂ = 64} {m₂ = 16} (le-trans count-limit (limit-le t there)) (width-le t there)
+
+  pub offset-start : tableOffset b t ≡ tableStart b t
+  offset-start = eqb-true _ _ (not-false _ (or-right (ltb (limit t) (tableCount b t)) _ table-fine))
+
+  -- table t ends before the trailer
+  pub table-end : tableOffset b t + tableSize b t ≤ trailer b
+  unfolding tableStart
+  table-end =
+      rw (offset-start, ← tables-end b ok, ← sum-step (tableSize b) t) (sum-le-sum (tableSize b) (suc t) 7 there)
+
+  -- it is the part of the base that the trailer names
+  pub table-is : tableOf b t ≡ partOf b (tableOffset b t) (tableSize b t)
+  unfolding tableOf
+  table-is = rw (eq-eqb _ _ ok, lt-ltb _ _ there)
+
+  pub table-length : length (tableOf b t) ≡ tableSize b t
+  table-length =
+      let e = table-end in
+      rw (table-is, length-take, length-drop) (min-eq-left (omega arith))
+
+  -- the number of records in it is the trailer's count
+  pub record-count : recordCount t (tableOf b t) ≡ tableCount b t
+  record-count = rw table-length (mul-div-cancel (tableCount b t) (width-pos t there))

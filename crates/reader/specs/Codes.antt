@@ -1,0 +1,40 @@
+-- Membership: each role has a prime as its identity code; a user's parameter is the product of the codes of that
+-- user's roles, each once (004, definitions 18 and 19).
+use Prim.Native.Nat.{ℕ, _%_, _^_}
+use mathlib.Core.Bool.{Bool, _&&_, cond}
+use mathlib.Core.List.{List, [], _∷_}
+use lib.ListN.{getD}
+use lib.Dec.{ltb, eqb}
+use Rattle.folds.specs.Below.{anyBelow, productBelow}
+use Rattle.reader.specs.Bytes.{inSet}
+use Rattle.reader.specs.Tables.{users, roleCount, tableOf, recordCount}
+use Rattle.reader.specs.Fields.{parameter}
+
+-- the identity codes of roles 0 to 7
+abbrev pub codes : List ℕ
+codes = 3 ∷ 5 ∷ 7 ∷ 11 ∷ 13 ∷ 17 ∷ 19 ∷ 23 ∷ []
+
+abbrev pub codeOf : ℕ → ℕ
+codeOf r = getD codes r 0
+
+-- the product of the codes of the roles below R that are in the set s (bit r for role r)
+unfoldable pub codeProduct : ℕ → ℕ → ℕ
+unfolding productBelow inSet
+codeProduct R s = productBelow R (λ r. cond (inSet s r) (codeOf r) 1)
+
+-- a parameter that is the product over some set of roles below R
+unfoldable pub parameterOk : ℕ → ℕ → Bool
+unfolding anyBelow
+parameterOk R x = anyBelow (2 ^ R) (λ s. eqb x (codeProduct R s))
+
+-- the code of role r divides the parameter x
+abbrev pub divides : ℕ → ℕ → Bool
+divides r x = eqb (x % codeOf r) 0
+
+-- by the bytes of U and R, user u holds role r: both are there, and the role's code divides the user's parameter
+unfoldable pub heldBy : ℕ → List ℕ → ℕ → ℕ → Bool
+heldBy R us u r = ltb u (recordCount users us) && (ltb r R && divides r (parameter us u))
+
+-- membership: user u of the base holds role r
+abbrev pub holds : List ℕ → ℕ → ℕ → Bool
+holds b u r = heldBy (roleCount b) (tableOf b users) u r

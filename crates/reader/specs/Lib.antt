@@ -1,0 +1,5 @@
+pub mod Bytes
+pub mod Tables
+pub mod Fields
+pub mod Codes
+pub mod Rules

@@ -1,0 +1,31 @@
+// Numbers in bytes: little-endian and unsigned.
+ghost use mathlib.Core.Path.{_≡_};
+ghost use Prim.Native.Nat.{_+_, _≤_, _<_};
+ghost use lib.ListN.{length};
+ghost use Rattle.reader.specs.Bytes.{word16, word32};
+
+fn wide16(x: u8) -> u16
+    ensures { λ r. ⌜ (r ≡ x) × (r < 256) ⌝ }
+{
+    x as u16
+}
+
+fn wide32(x: u8) -> u32
+    ensures { λ r. ⌜ (r ≡ x) × (r < 256) ⌝ }
+{
+    x as u32
+}
+
+pub fn get16(b: &[u8], i: usize) -> u16
+    requires { ⌜ i + 2 ≤ length (now b) ⌝ }
+    ensures { λ r. ⌜ r ≡ word16 (now (b .entry)) i ⌝ }
+{
+    wide16(b[i]) + 256 * wide16(b[i + 1])
+}
+
+pub fn get32(b: &[u8], i: usize) -> u32
+    requires { ⌜ i + 4 ≤ length (now b) ⌝ }
+    ensures { λ r. ⌜ r ≡ word32 (now (b .entry)) i ⌝ }
+{
+    wide32(b[i]) + 256 * wide32(b[i + 1]) + 65536 * wide32(b[i + 2]) + 16777216 * wide32(b[i + 3])
+}

@@ -1,0 +1,88 @@
+// The records of C: refusal 7.
+use crate::bytes;
+ghost use mathlib.Core.Path.{_≡_};
+ghost use Prim.Native.Nat.{_+_, _*_, _≤_, _<_};
+ghost use lib.ListN.{length};
+ghost use Rattle.folds.specs.Below.{anyBelow};
+ghost use Rattle.reader.specs.Rules.{contextConditionBad, contextSlotBad, contextBad, contextsBad};
+
+// How many values a context's parameter has: minute, day, zone.
+const RANGES: [u16; 3] = [1440, 7, 256];
+
+fn context_condition_bad(parameter: u8, operator: u8, value: u16) -> bool
+    ensures { λ r. ⌜ r ≡ contextConditionBad parameter operator value ⌝ }
+{
+    if 2 < parameter {
+        return true;
+    }
+    if 5 < operator {
+        return true;
+    }
+    RANGES[parameter as usize] <= value
+}
+
+// Condition j of record i, used or not.
+fn context_slot_bad(c: &[u8], i: usize, j: usize) -> bool
+    requires { ⌜ (16 * i + 16 ≤ length (now c)) × (j < 3) ⌝ }
+    ensures { λ r. ⌜ r ≡ contextSlotBad (now (c .entry)) i j ⌝ }
+{
+    let parameter = c[16 * i + 4 * j + 2];
+    let operator = c[16 * i + 4 * j + 3];
+    let value = bytes::get16(c, 16 * i + 4 * j + 4);
+    if j < c[16 * i + 1] as usize {
+        return context_condition_bad(parameter, operator, value);
+    }
+    if parameter != 0 {
+        return true;
+    }
+    if operator != 0 {
+        return true;
+    }
+    value != 0
+}
+
+fn context_slots_bad(c: &[u8], i: usize) -> bool
+    requires { ⌜ 16 * i + 16 ≤ length (now c) ⌝ }
+    ensures { λ r. ⌜ r ≡ anyBelow 3 (contextSlotBad (now (c .entry)) i) ⌝ }
+{
+    for j in 0..3usize {
+        if context_slot_bad(c, i, j) {
+            return true;
+        }
+    }
+    false
+}
+
+fn context_bad(c: &[u8], i: usize) -> bool
+    requires { ⌜ 16 * i + 16 ≤ length (now c) ⌝ }
+    ensures { λ r. ⌜ r ≡ contextBad (now (c .entry)) i ⌝ }
+{
+    if 15 < c[16 * i] {
+        return true;
+    }
+    if c[16 * i + 1] < 1 {
+        return true;
+    }
+    if 3 < c[16 * i + 1] {
+        return true;
+    }
+    if context_slots_bad(c, i) {
+        return true;
+    }
+    if c[16 * i + 14] != 0 {
+        return true;
+    }
+    c[16 * i + 15] != 0
+}
+
+// Refusal 7.
+pub fn contexts_bad(c: &[u8]) -> bool
+    ensures { λ r. ⌜ r ≡ contextsBad (now (c .entry)) ⌝ }
+{
+    for i in 0..c.len() / 16 {
+        if context_bad(c, i) {
+            return true;
+        }
+    }
+    false
+}
