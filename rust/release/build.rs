@@ -1,0 +1,9 @@
+//! Links the static library, which is built before this crate.
+
+fn main() {
+    let crate_dir = std::env::var("CARGO_MANIFEST_DIR").expect("cargo names the crate's directory");
+    let library_dir = format!("{crate_dir}/../../target/staticlib");
+    println!("cargo:rustc-link-search=native={library_dir}");
+    println!("cargo:rustc-link-lib=static=exports");
+    println!("cargo:rerun-if-changed={library_dir}/libexports.a");
+}
