@@ -1,4 +1,4 @@
-// The C interface: one function an entry point. A slice passes as a pointer and a length.
+// The C interface: one function for each call that answers with a number. A slice passes as a pointer and a length.
 ghost use mathlib.Core.Path.{_≡_};
 ghost use Rattle.reader.specs.Rules.{refusalOf};
 

@@ -1,3 +1,4 @@
 pub mod Bools
 pub mod Tests
 pub mod Numbers
+pub mod Sets

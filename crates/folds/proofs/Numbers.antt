@@ -42,6 +42,21 @@ module _ (f : ℕ → ℕ) where
       let b : f n ≤ c = h n (omega arith) in
       rw suc-mul (omega arith)
 
+  -- numbers that are 0 add nothing
+  pub sum-zero : (n : ℕ) → ((i : ℕ) → i < n → f i ≡ 0) → sumBelow n f ≡ 0
+  unfolding sumBelow
+  sum-zero zero h = refl
+  sum-zero (suc n) h = rw (sum-zero n (λ i l. h i (omega arith)), h n (omega arith))
+
+  -- a sum whose numbers from m on are 0
+  pub sum-tail : (m n : ℕ) → m ≤ n → ((i : ℕ) → m ≤ i → i < n → f i ≡ 0) → sumBelow n f ≡ sumBelow m f
+  unfolding sumBelow
+  sum-tail m zero h z = let e : m ≡ 0 = omega arith in rw e
+  sum-tail m (suc n) h z =
+      ⊎-elim (λ q. rw q)
+      (λ l. rw (z n (le-of-suc-le-suc l) (omega arith), add-zero) (sum-tail m n (le-of-suc-le-suc l) (λ i k j. z i k (omega arith))))
+      (eq-or-lt-of-le h)
+
   pub product-none : productBelow 0 f ≡ 1
   unfolding productBelow
   product-none = refl

@@ -93,6 +93,12 @@ module _ (p : ℕ → Bool) where
       by false true ea eb low k = any-at n ea i k
       by false false ea eb low k = split k (λ q. rw q eb) (λ l. any-at n ea i l)
 
+  -- where p holds of some number below n, the first lies below n
+  pub first-lt : (n : ℕ) → anyBelow n p ≡ true → firstBelow n p < n
+  first-lt n h =
+      let w = any-some n h in
+      ⊎-elim (λ q. clash (p (w .0)) (w .2) (first-least n (w .0) (let l = w .1 in rw q l))) (λ l. l) (eq-or-lt-of-le (first-le n))
+
   -- p holds of the first where that lies below n
   pub first-at : (n : ℕ) → firstBelow n p < n → p (firstBelow n p) ≡ true
   unfolding firstBelow anyBelow
@@ -112,6 +118,11 @@ module _ (p : ℕ → Bool) where
   first-is zero i h e low = elim (not-suc-le-zero h) [ ]
   first-is (suc n) i h e low =
       split h (λ q. rw (any-each n (λ j l. low j (omega arith)), ← q, e)) (λ l. rw (any-found n i l e) (first-is n i l e low))
+
+  -- the first below n + 1
+  pub first-more : (n : ℕ) → firstBelow (n + 1) p ≡ cond (anyBelow n p) (firstBelow n p) (cond (p n) n (n + 1))
+  unfolding firstBelow
+  first-more n = rw add-one
 
   pub first-none : (n : ℕ) → anyBelow n p ≡ false → firstBelow n p ≡ n
   unfolding firstBelow anyBelow

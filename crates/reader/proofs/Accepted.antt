@@ -5,16 +5,20 @@ use mathlib.Core.Path.{_≡_, refl, sym, _∙_}
 use mathlib.Core.List.{List}
 use native.Mathlib.Omega.{arith}
 use native.Mathlib.Nat.{suc-ne-zero, mul-suc, mul-comm, div-mul-le-self, mul-le-mul-left, le-trans}
-use mathlib.Core.Logic.{_⊎_, inl, inr}
+use mathlib.Core.Logic.{_⊎_, inl, inr, ⊎-elim}
 use borrow.Author.Tests.{ltb-true, ltb-false, eqb-true, not-false, lt-ltb}
 use lib.Dec.{ltb, eqb}
 use lib.ListN.{length}
-use Rattle.folds.proofs.Bools.{or-left, or-right, clash}
+use Rattle.folds.proofs.Bools.{or-left, or-right, clash, met-or-not}
 use Rattle.folds.proofs.Tests.{any-at}
 use Rattle.reader.specs.Fields.{senior, junior, parameter, clausePermission, clauseLength, conditionAttribute, conditionOperator, conditionValue, contextNumber, contextLength, contextParameter, contextOperator, contextValue, policyRole, policyPermission, policyWeight, policyType, policyContext, exclusionKind, exclusionFirst, exclusionSecond}
-use Rattle.reader.specs.Codes.{parameterOk}
-use Rattle.reader.specs.Tables.{width, hierarchy, users, clauses, contexts, policies, exclusions, roleCount, tableOf, recordCount, lengthBad, lettersBad, trailerBad, frameRefusal}
-use Rattle.reader.specs.Rules.{rangeOf, outside, conditionBad, clauseConditionBad, clauseBad, contextConditionBad, contextSlotBad, contextBad, policyBad, exclusionBad, hierarchyRecordBad, userBad, hierarchyBad, usersBad, clausesBad, contextsBad, policiesBad, exclusionsBad, permissionCount, recordsRefusal, refusalOf}
+use Rattle.reader.specs.Codes.{parameterOk, codeProduct, heldBy, holds}
+use Rattle.folds.specs.Sets.{inSet}
+use Rattle.folds.proofs.Sets.{in-set-high}
+use Rattle.reader.proofs.Frame.{roles-range}
+use Rattle.reader.proofs.Parameter.{roles-held}
+use Rattle.reader.specs.Tables.{width, hierarchy, users, clauses, contexts, policies, exclusions, roleCount, permissionCount, tableOf, recordCount, lengthBad, lettersBad, trailerBad, frameRefusal}
+use Rattle.reader.specs.Rules.{rangeOf, outside, conditionBad, clauseSlotBad, clauseBad, contextConditionBad, contextSlotBad, contextBad, policyBad, exclusionBad, hierarchyRecordBad, userBad, hierarchyBad, usersBad, clausesBad, contextsBad, policiesBad, exclusionsBad, recordsRefusal, refusalOf}
 
 -- refusals 1 to 3 come first
 pub refused-frame : (b : List ℕ) → (frameRefusal b ≡ 0 → ⊥) → refusalOf b ≡ frameRefusal b
@@ -160,7 +164,7 @@ module _ (R P : ℕ) (r : List ℕ) (i : ℕ) where
   user-fine h l = not-false _ (any-at (userBad R r) _ h i l)
 
   pub clause-fine : clausesBad R P r ≡ false → i < recordCount clauses r → ClauseFine R P r i
-  unfolding clausesBad clauseBad clauseConditionBad
+  unfolding clausesBad clauseBad clauseSlotBad
   clause-fine h l =
       let k = any-at (clauseBad R P r) _ h i l in
       let k₂ = or-right (not (ltb (clausePermission r i) P)) _ k in
@@ -171,7 +175,7 @@ module _ (R P : ℕ) (r : List ℕ) (i : ℕ) where
         some = ltb-false _ _ (or-left _ _ (or-left _ _ k₂));
         at-most = most;
         condition = λ j m. condition-fine _ _ _ _
-            (rw (lt-ltb _ _ m) at (any-at (clauseConditionBad R r i) 4 k₃ j (omega arith)));
+            (rw (lt-ltb _ _ m) at (any-at (clauseSlotBad R r i) 4 k₃ j (omega arith)));
       }
 
   pub context-fine : contextsBad r ≡ false → i < recordCount contexts r → ContextFine r i
@@ -232,3 +236,14 @@ accepted b ok =
     let f = accepted-frame b ok in
     let w = none-of _ _ _ _ _ _ (sym (refused-records b f) ∙ ok) in
     record { frame = f; hierarchy = w .0; users = w .1; clauses = w .2; contexts = w .3; policies = w .4; exclusions = w .5 }
+
+-- the law of membership: each user of an accepted base holds exactly the roles of a set below R, and the parameter is
+-- the product of their codes
+pub holds-set : (b : List ℕ) → refusalOf b ≡ 0 → (u : ℕ) → u < recordCount 1 (tableOf b 1) →
+    (s : ℕ) × (s < 2 ^ roleCount b) × (parameter (tableOf b 1) u ≡ codeProduct (roleCount b) s) × ((r : ℕ) → holds b u r ≡ inSet s r)
+unfolding heldBy
+holds-set b ok u l =
+    let A = accepted b ok in
+    let R = roleCount b in
+    let (s, small, e, m) = roles-held R _ (roles-range b (A .frame) .1) (user-fine R 0 (tableOf b 1) u (A .users) l) in
+    (s, small, e, λ r. rw (lt-ltb _ _ l) (⊎-elim (λ k. rw k (m r (ltb-true _ _ k))) (λ k. rw k (sym (in-set-high R s r small (ltb-false _ _ k)))) (met-or-not (ltb r R))))

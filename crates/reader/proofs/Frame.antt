@@ -26,12 +26,18 @@ pub limit-le : (t : ℕ) → t < 7 → limit t ≤ 64
 unfolding allBelow
 limit-le t h = leb-true _ _ (all-at (λ k. leb (limit k) 64) 7 refl t h)
 
+-- a base that passes refusal 1 has a trailer
+pub long-enough : (b : List ℕ) → lengthBad b ≡ false → 36 ≤ length b
+unfolding lengthBad
+long-enough b h = ltb-false _ _ (or-left _ _ h)
+
 -- a base that has its tables: none of 1 to 3 applies
 pub record Framed (b : List ℕ) : Type 0 where
   pub long : 36 ≤ length b
   pub short : length b ≤ 2364
   pub letters : lettersBad b ≡ false
   pub roles : rolesBad b ≡ false
+  pub reserved : reservedBad b ≡ false
   pub tables : tablesBad b ≡ false
 
 -- the chain's last link: where it gives 0, its tests are all false
@@ -46,10 +52,11 @@ unfolding frameRefusal lengthBad trailerBad
 framed b h =
     let w = none-of (lengthBad b) (lettersBad b) (trailerBad b) h in
     record {
-      long = ltb-false _ _ (or-left _ _ (w .0));
+      long = long-enough b (w .0);
       short = ltb-false _ _ (or-right (ltb (length b) 36) _ (w .0));
       letters = w .1;
       roles = or-left _ _ (w .2);
+      reserved = or-left _ _ (or-right (rolesBad b) _ (w .2));
       tables = or-right (reservedBad b) _ (or-right (rolesBad b) _ (w .2));
     }
 
@@ -80,7 +87,7 @@ module _ (b : List ℕ) (ok : frameRefusal b ≡ 0) (t : ℕ) (there : t < 7) wh
   pub offset-start : tableOffset b t ≡ tableStart b t
   offset-start = eqb-true _ _ (not-false _ (or-right (ltb (limit t) (tableCount b t)) _ table-fine))
 
-  -- table t ends before the trailer
+  -- table t ends where the trailer starts, or before
   pub table-end : tableOffset b t + tableSize b t ≤ trailer b
   unfolding tableStart
   table-end =

@@ -4,22 +4,22 @@ use mathlib.Core.Bool.{Bool, true, false, _||_, cond}
 use mathlib.Core.Path.{_≡_, refl, sym, ap, _∙_}
 use mathlib.Core.Logic.{⊎-elim}
 use native.Mathlib.Numerals.{add-one}
-use native.Mathlib.Nat.{mul-one, one-mul, mul-add, mul-comm, mul-assoc, mul-left-comm, eq-of-mul-eq-mul-right, mod-eq-of-lt, div-add-mod', div-mul-cancel, div-div-eq-div-mul, pow-succ', dvd-mul-left, dvd-mul-left-of-dvd, dvd-mul-right-of-dvd, dvd-add-iff-right, dvd-of-mod-eq-zero, mod-eq-zero-of-dvd, le-of-suc-le-suc, not-suc-le-zero, lt-of-not-le, lt-of-lt-of-le, div-eq-of-lt}
+use native.Mathlib.Nat.{mul-one, one-mul, mul-add, mul-comm, mul-assoc, mul-left-comm, eq-of-mul-eq-mul-right, mod-eq-of-lt, div-add-mod', div-mul-cancel, dvd-mul-left, dvd-mul-left-of-dvd, dvd-mul-right-of-dvd, dvd-add-iff-right, dvd-of-mod-eq-zero, mod-eq-zero-of-dvd, not-suc-le-zero}
 use native.Mathlib.Omega.{arith}
-use lib.Dec.{ltb, eqb, lit<}
-use lib.Pow.{pow-mono}
+use lib.Dec.{ltb, eqb}
 use borrow.Author.Tests.{ltb-true, eqb-true, eq-eqb}
 use Rattle.folds.specs.Below.{allBelow, productBelow}
-use Rattle.folds.proofs.Bools.{or-either, same-test, clash}
+use Rattle.folds.proofs.Bools.{or-either, same-test}
 use Rattle.folds.proofs.Tests.{split, all-at, any-found, any-some}
 use Rattle.folds.proofs.Numbers.{product-same, product-pos}
-use Rattle.reader.specs.Bytes.{inSet}
-use Rattle.reader.specs.Codes.{codeOf, codeProduct, parameterOk, divides}
+use Rattle.folds.specs.Sets.{inSet, setBelow}
+use Rattle.folds.proofs.Sets.{set-lt, in-set}
+use Rattle.reader.specs.Codes.{codeOf, codeProduct, parameterOk, codeDivides}
 
 -- what is left of x once each code of a role below r that divides it was divided out, in role order
 unfoldable pub restOf : ℕ → ℕ → ℕ
 restOf zero x = x
-restOf (suc r) x = cond (divides r (restOf r x)) (restOf r x / codeOf r) (restOf r x)
+restOf (suc r) x = cond (codeDivides r (restOf r x)) (restOf r x / codeOf r) (restOf r x)
 
 -- at first nothing is divided out
 pub rest-none : (x : ℕ) → restOf 0 x ≡ x
@@ -27,12 +27,12 @@ unfolding restOf
 rest-none x = refl
 
 -- the code of role r is divided out where it divides
-pub rest-taken : (r x : ℕ) → divides r (restOf r x) ≡ true → restOf (r + 1) x ≡ restOf r x / codeOf r
+pub rest-taken : (r x : ℕ) → codeDivides r (restOf r x) ≡ true → restOf (r + 1) x ≡ restOf r x / codeOf r
 unfolding restOf
 rest-taken r x h = rw (add-one, h)
 
 -- and not where it doesn't
-pub rest-left : (r x : ℕ) → divides r (restOf r x) ≡ false → restOf (r + 1) x ≡ restOf r x
+pub rest-left : (r x : ℕ) → codeDivides r (restOf r x) ≡ false → restOf (r + 1) x ≡ restOf r x
 unfolding restOf
 rest-left r x h = rw (add-one, h)
 
@@ -68,15 +68,15 @@ cancel p y c i h d =
     (rw (mul-assoc, e, mul-add, mul-one) at (dvd-mul-right-of-dvd p d i))
 
 -- the test of a divisor is met by one
-divides-true : (r x : ℕ) → codeOf r ∣ x → divides r x ≡ true
+divides-true : (r x : ℕ) → codeOf r ∣ x → codeDivides r x ≡ true
 divides-true r x d = eq-eqb _ _ (mod-eq-zero-of-dvd (codeOf r) d)
 
 -- and by nothing else
-true-divides : (r x : ℕ) → divides r x ≡ true → codeOf r ∣ x
+true-divides : (r x : ℕ) → codeDivides r x ≡ true → codeOf r ∣ x
 true-divides r x h = dvd-of-mod-eq-zero (codeOf r) (eqb-true _ _ h)
 
 -- the code of another role as a factor makes no difference to role r
-other-code : (r k y : ℕ) → r < 8 → k < 8 → (k ≡ r → ⊥) → divides r (y * codeOf k) ≡ divides r y
+other-code : (r k y : ℕ) → r < 8 → k < 8 → (k ≡ r → ⊥) → codeDivides r (y * codeOf k) ≡ codeDivides r y
 other-code r k y h l d =
     same-test _ _
     (λ e. divides-true r y (cancel (codeOf r) y (codeOf k) (inverse r k) (inverse-at r k h l d) (true-divides r (y * codeOf k) e)))
@@ -97,15 +97,15 @@ module _ (t : ℕ → Bool) where
       by false = omega arith
 
   -- the factor of another role makes no difference to role r
-  other : (r k y : ℕ) → r < 8 → k < 8 → (k ≡ r → ⊥) → divides r (y * factor k) ≡ divides r y
+  other : (r k y : ℕ) → r < 8 → k < 8 → (k ≡ r → ⊥) → codeDivides r (y * factor k) ≡ codeDivides r y
   other r k y h l d = by (t k)
     where
-      by : (b : Bool) → divides r (y * cond b (codeOf k) 1) ≡ divides r y
+      by : (b : Bool) → codeDivides r (y * cond b (codeOf k) 1) ≡ codeDivides r y
       by true = other-code r k y h l d
       by false = rw mul-one
 
   -- nor do those of roles below r
-  others : (r y n : ℕ) → r < 8 → n ≤ r → divides r (y * productBelow n factor) ≡ divides r y
+  others : (r y n : ℕ) → r < 8 → n ≤ r → codeDivides r (y * productBelow n factor) ≡ codeDivides r y
   unfolding productBelow
   others r y zero h l = rw mul-one
   others r y (suc n) h l =
@@ -113,88 +113,54 @@ module _ (t : ℕ → Bool) where
       (other r n (y * productBelow n factor) h (omega arith) (λ e. omega arith) ∙ others r y n h (omega arith))
 
   -- of the product, the codes of exactly the roles picked are divisors
-  picked : (n r : ℕ) → n ≤ 8 → r < n → divides r (productBelow n factor) ≡ t r
+  picked : (n r : ℕ) → n ≤ 8 → r < n → codeDivides r (productBelow n factor) ≡ t r
   unfolding productBelow
   picked zero r h l = elim (not-suc-le-zero l) [ ]
   picked (suc n) r h l =
       split l (λ e. rw e (by (t n)))
       (λ k. other r n (productBelow n factor) (omega arith) h (λ e. omega arith) ∙ picked n r (omega arith) k)
     where
-      by : (b : Bool) → divides n (productBelow n factor * cond b (codeOf n) 1) ≡ b
+      by : (b : Bool) → codeDivides n (productBelow n factor * cond b (codeOf n) 1) ≡ b
       by true = divides-true n (productBelow n factor * codeOf n) (dvd-mul-left (codeOf n) (productBelow n factor))
       by false = rw (mul-one, ← one-mul (productBelow n factor), others n 1 n h (omega arith), mod-eq-of-lt (code-big n h))
 
 -- of a product over a set of roles below R, the codes of exactly the roles in the set are divisors
-pub product-divides : (R s r : ℕ) → R ≤ 8 → r < R → divides r (codeProduct R s) ≡ inSet s r
+pub product-divides : (R s r : ℕ) → R ≤ 8 → r < R → codeDivides r (codeProduct R s) ≡ inSet s r
 unfolding codeProduct
 product-divides R s r h l = picked (inSet s) R r h l
 
 -- the roles held by an accepted parameter are the set of which it is the product
 pub roles-held : (R x : ℕ) → R ≤ 8 → parameterOk R x ≡ true →
-    (s : ℕ) × (s < 2 ^ R) × (x ≡ codeProduct R s) × ((r : ℕ) → r < R → divides r x ≡ inSet s r)
+    (s : ℕ) × (s < 2 ^ R) × (x ≡ codeProduct R s) × ((r : ℕ) → r < R → codeDivides r x ≡ inSet s r)
 unfolding parameterOk
 roles-held R x h ok =
     let (s, l, m) = any-some (λ s. eqb x (codeProduct R s)) (2 ^ R) ok in
     let e : x ≡ codeProduct R s = eqb-true _ _ m in
-    (s, l, e, λ r k. ap (divides r) e ∙ product-divides R s r h k)
+    (s, l, e, λ r k. ap (codeDivides r) e ∙ product-divides R s r h k)
 
 -- to divide a code out is to move it from y to the product p
-moved : (r y p : ℕ) → y * p ≡ cond (divides r y) (y / codeOf r) y * (p * cond (divides r y) (codeOf r) 1)
-moved r y p = by (divides r y) refl
+moved : (r y p : ℕ) → y * p ≡ cond (codeDivides r y) (y / codeOf r) y * (p * cond (codeDivides r y) (codeOf r) 1)
+moved r y p = by (codeDivides r y) refl
   where
-    by : (b : Bool) → divides r y ≡ b → y * p ≡ cond b (y / codeOf r) y * (p * cond b (codeOf r) 1)
+    by : (b : Bool) → codeDivides r y ≡ b → y * p ≡ cond b (y / codeOf r) y * (p * cond b (codeOf r) 1)
     by true e = rw (mul-left-comm, div-mul-cancel (codeOf r) (true-divides r y e)) (mul-comm y p)
     by false e = rw (mul-one p)
 
 -- a number is what is left of it times the codes that divide it
-rest-times : (n x : ℕ) → n ≤ 8 → x ≡ restOf n x * productBelow n (factor (λ k. divides k x))
+rest-times : (n x : ℕ) → n ≤ 8 → x ≡ restOf n x * productBelow n (factor (λ k. codeDivides k x))
 unfolding restOf productBelow
 rest-times zero x h = sym (mul-one x)
 rest-times (suc n) x h =
-    let t : ℕ → Bool = λ k. divides k x in
+    let t : ℕ → Bool = λ k. codeDivides k x in
     let e : x ≡ restOf n x * productBelow n (factor t) = rest-times n x (omega arith) in
-    let same : divides n x ≡ divides n (restOf n x) = ap (divides n) e ∙ others t n (restOf n x) n h (omega arith) in
+    let same : codeDivides n x ≡ codeDivides n (restOf n x) = ap (codeDivides n) e ∙ others t n (restOf n x) n h (omega arith) in
     rw same (e ∙ moved n (restOf n x) (productBelow n (factor t)))
 
 -- the same with the set of the roles whose codes divide it
-rest-set : (R x s : ℕ) → R ≤ 8 → ((r : ℕ) → r < R → divides r x ≡ inSet s r) → x ≡ restOf R x * codeProduct R s
+rest-set : (R x s : ℕ) → R ≤ 8 → ((r : ℕ) → r < R → codeDivides r x ≡ inSet s r) → x ≡ restOf R x * codeProduct R s
 unfolding codeProduct
 rest-set R x s h e =
-    rw (← product-same (factor (λ k. divides k x)) (factor (inSet s)) R (λ r l. rw (e r l))) (rest-times R x h)
-
--- the set with 0 in it by b, and each r + 1 by r in s
-abbrev shifted : Bool → ℕ → ℕ
-shifted b s = cond b 1 0 + 2 * s
-
--- it goes one further than s
-shifted-lt : (b : Bool) (s n : ℕ) → s < 2 ^ n → shifted b s < 2 ^ suc n
-shifted-lt true s n h = omega arith
-shifted-lt false s n h = omega arith
-
--- 0 is in it by b
-shifted-zero : (b : Bool) (s : ℕ) → inSet (shifted b s) 0 ≡ b
-unfolding inSet
-shifted-zero true s = let e : shifted true s / 1 % 2 ≡ 1 = omega arith in rw e
-shifted-zero false s = let e : shifted false s / 1 % 2 ≡ 0 = omega arith in rw e
-
--- r + 1 is in it by r in s
-shifted-suc : (b : Bool) (s r : ℕ) → inSet (shifted b s) (suc r) ≡ inSet s r
-unfolding inSet
-shifted-suc b s r = rw (pow-succ', ← div-div-eq-div-mul, half b)
-  where
-    half : (b : Bool) → shifted b s / 2 ≡ s
-    half true = omega arith
-    half false = omega arith
-
--- each test of the numbers below n has its set
-set-of : (t : ℕ → Bool) (n : ℕ) → (s : ℕ) × (s < 2 ^ n) × ((r : ℕ) → r < n → inSet s r ≡ t r)
-set-of t zero = (0, lit< tt, λ r l. elim (not-suc-le-zero l) [ ])
-set-of t (suc n) =
-    let (s, l, e) = set-of (λ r. t (suc r)) n in (shifted (t 0) s, shifted-lt (t 0) s n l, by s e)
-  where
-    by : (s : ℕ) → ((r : ℕ) → r < n → inSet s r ≡ t (suc r)) → (r : ℕ) → r < suc n → inSet (shifted (t 0) s) r ≡ t r
-    by s e zero l = shifted-zero (t 0) s
-    by s e (suc r) l = shifted-suc (t 0) s r ∙ e r (le-of-suc-le-suc l)
+    rw (← product-same (factor (λ k. codeDivides k x)) (factor (inSet s)) R (λ r l. rw (e r l))) (rest-times R x h)
 
 -- the parameter is a product of different codes of roles below R exactly when the rest is 1
 pub rest-one : (R x : ℕ) → R ≤ 8 → eqb (restOf R x) 1 ≡ parameterOk R x
@@ -203,9 +169,9 @@ rest-one R x h = same-test _ _ accepted one
   where
     accepted : eqb (restOf R x) 1 ≡ true → parameterOk R x ≡ true
     accepted e =
-        let (s, l, m) = set-of (λ r. divides r x) R in
-        any-found (λ s. eqb x (codeProduct R s)) (2 ^ R) s l
-        (eq-eqb _ _ (rest-set R x s h (λ r k. sym (m r k)) ∙ rw (eqb-true (restOf R x) 1 e) (one-mul _)))
+        let t : ℕ → Bool = λ r. codeDivides r x in
+        any-found (λ s. eqb x (codeProduct R s)) (2 ^ R) (setBelow R t) (set-lt t R)
+        (eq-eqb _ _ (rest-set R x (setBelow R t) h (λ r k. sym (in-set t R r k)) ∙ rw (eqb-true (restOf R x) 1 e) (one-mul _)))
 
     one : parameterOk R x ≡ true → eqb (restOf R x) 1 ≡ true
     one ok =
@@ -213,10 +179,3 @@ rest-one R x h = same-test _ _ accepted one
         let pos : 0 < codeProduct R s = product-pos (factor (inSet s)) R (λ r k. factor-pos (inSet s) r (omega arith)) in
         eq-eqb _ _
         (eq-of-mul-eq-mul-right (codeProduct R s) pos (restOf R x) 1 (sym (rest-set R x s h m) ∙ e ∙ sym (one-mul _)))
-
--- a set below 2 ^ R has no role at R or above
-pub in-set-below : (R s r : ℕ) → s < 2 ^ R → inSet s r ≡ true → r < R
-unfolding inSet
-in-set-below R s r h e =
-    lt-of-not-le
-    (λ l. let z : s / 2 ^ r ≡ 0 = div-eq-of-lt (lt-of-lt-of-le h (pow-mono l)) in clash (eqb (s / 2 ^ r % 2) 1) e (rw z))

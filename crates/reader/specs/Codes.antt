@@ -6,7 +6,7 @@ use mathlib.Core.List.{List, [], _∷_}
 use lib.ListN.{getD}
 use lib.Dec.{ltb, eqb}
 use Rattle.folds.specs.Below.{anyBelow, productBelow}
-use Rattle.reader.specs.Bytes.{inSet}
+use Rattle.folds.specs.Sets.{inSet}
 use Rattle.reader.specs.Tables.{users, roleCount, tableOf, recordCount}
 use Rattle.reader.specs.Fields.{parameter}
 
@@ -28,12 +28,12 @@ unfolding anyBelow
 parameterOk R x = anyBelow (2 ^ R) (λ s. eqb x (codeProduct R s))
 
 -- the code of role r divides the parameter x
-abbrev pub divides : ℕ → ℕ → Bool
-divides r x = eqb (x % codeOf r) 0
+abbrev pub codeDivides : ℕ → ℕ → Bool
+codeDivides r x = eqb (x % codeOf r) 0
 
 -- by the bytes of U and R, user u holds role r: both are there, and the role's code divides the user's parameter
 unfoldable pub heldBy : ℕ → List ℕ → ℕ → ℕ → Bool
-heldBy R us u r = ltb u (recordCount users us) && (ltb r R && divides r (parameter us u))
+heldBy R us u r = ltb u (recordCount users us) && (ltb r R && codeDivides r (parameter us u))
 
 -- membership: user u of the base holds role r
 abbrev pub holds : List ℕ → ℕ → ℕ → Bool

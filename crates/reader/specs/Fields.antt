@@ -3,7 +3,7 @@ use Prim.Native.Nat.{ℕ, _+_, _*_}
 use mathlib.Core.List.{List}
 use lib.ListN.{getD}
 use Rattle.reader.specs.Bytes.{word16, word32}
-use Rattle.reader.specs.Tables.{width, hierarchy, users, clauses, contexts, policies, exclusions}
+use Rattle.reader.specs.Tables.{width, hierarchy, users, permissions, clauses, contexts, policies, exclusions}
 
 -- H: senior role, junior role
 abbrev pub senior : List ℕ → ℕ → ℕ
@@ -15,6 +15,13 @@ junior h i = getD h (width hierarchy * i + 1) 0
 -- U: role assignment parameter
 abbrev pub parameter : List ℕ → ℕ → ℕ
 parameter u i = word32 u (width users * i)
+
+-- P: operation, object
+abbrev pub operation : List ℕ → ℕ → ℕ
+operation p i = getD p (width permissions * i) 0
+
+abbrev pub object : List ℕ → ℕ → ℕ
+object p i = getD p (width permissions * i + 1) 0
 
 -- K: permission; count n; four conditions of 3 bytes (attribute, operator, value); 2 zero bytes
 abbrev pub clausePermission : List ℕ → ℕ → ℕ
@@ -49,11 +56,11 @@ abbrev pub contextValue : List ℕ → ℕ → ℕ → ℕ
 contextValue c i j = word16 c (width contexts * i + 4 * j + 4)
 
 -- the 2 zero bytes at the end of a K or a C record
-abbrev pub firstZero : List ℕ → ℕ → ℕ
-firstZero r i = getD r (16 * i + 14) 0
+abbrev pub zeroByte14 : List ℕ → ℕ → ℕ
+zeroByte14 r i = getD r (16 * i + 14) 0
 
-abbrev pub secondZero : List ℕ → ℕ → ℕ
-secondZero r i = getD r (16 * i + 15) 0
+abbrev pub zeroByte15 : List ℕ → ℕ → ℕ
+zeroByte15 r i = getD r (16 * i + 15) 0
 
 -- A: role; permission; weight; type; context number; granter's rank; issue day in 2 bytes
 abbrev pub policyRole : List ℕ → ℕ → ℕ
@@ -70,6 +77,12 @@ policyType a i = getD a (width policies * i + 3) 0
 
 abbrev pub policyContext : List ℕ → ℕ → ℕ
 policyContext a i = getD a (width policies * i + 4) 0
+
+abbrev pub policyRank : List ℕ → ℕ → ℕ
+policyRank a i = getD a (width policies * i + 5) 0
+
+abbrev pub policyIssueDay : List ℕ → ℕ → ℕ
+policyIssueDay a i = word16 a (width policies * i + 6)
 
 -- X: kind; a; b
 abbrev pub exclusionKind : List ℕ → ℕ → ℕ

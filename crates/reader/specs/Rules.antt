@@ -6,8 +6,8 @@ use mathlib.Core.List.{List, [], _∷_}
 use lib.ListN.{getD}
 use lib.Dec.{ltb, eqb}
 use Rattle.folds.specs.Below.{anyBelow}
-use Rattle.reader.specs.Tables.{hierarchy, users, permissions, clauses, contexts, policies, exclusions, recordCount, roleCount, tableOf, lengthBad, lettersBad, trailerBad}
-use Rattle.reader.specs.Fields.{senior, junior, parameter, clausePermission, clauseLength, conditionAttribute, conditionOperator, conditionValue, contextNumber, contextLength, contextParameter, contextOperator, contextValue, firstZero, secondZero, policyRole, policyPermission, policyWeight, policyType, policyContext, exclusionKind, exclusionFirst, exclusionSecond}
+use Rattle.reader.specs.Tables.{hierarchy, users, permissions, clauses, contexts, policies, exclusions, recordCount, roleCount, permissionCount, tableOf, lengthBad, lettersBad, trailerBad}
+use Rattle.reader.specs.Fields.{senior, junior, parameter, clausePermission, clauseLength, conditionAttribute, conditionOperator, conditionValue, contextNumber, contextLength, contextParameter, contextOperator, contextValue, zeroByte14, zeroByte15, policyRole, policyPermission, policyWeight, policyType, policyContext, exclusionKind, exclusionFirst, exclusionSecond}
 use Rattle.reader.specs.Codes.{parameterOk}
 
 abbrev nonzero : ℕ → Bool
@@ -41,9 +41,9 @@ conditionBad R attribute operator value =
     (not (eqb attribute 3) || (not (eqb operator 6) || not (ltb value (2 ^ R))))
 
 -- condition j of K record i: one of the n, which keeps the rules, or one beyond n, which is zero bytes
-unfoldable pub clauseConditionBad : ℕ → List ℕ → ℕ → ℕ → Bool
+unfoldable pub clauseSlotBad : ℕ → List ℕ → ℕ → ℕ → Bool
 unfolding conditionBad
-clauseConditionBad R k i j =
+clauseSlotBad R k i j =
     cond (ltb j (clauseLength k i))
     (conditionBad R (conditionAttribute k i j) (conditionOperator k i j) (conditionValue k i j))
     (nonzero (conditionAttribute k i j) || (nonzero (conditionOperator k i j) || nonzero (conditionValue k i j)))
@@ -53,7 +53,7 @@ unfoldable pub clauseBad : ℕ → ℕ → List ℕ → ℕ → Bool
 unfolding anyBelow
 clauseBad R P k i =
     not (ltb (clausePermission k i) P) || (outside 1 4 (clauseLength k i)
-    || (anyBelow 4 (clauseConditionBad R k i) || (nonzero (firstZero k i) || nonzero (secondZero k i))))
+    || (anyBelow 4 (clauseSlotBad R k i) || (nonzero (zeroByte14 k i) || nonzero (zeroByte15 k i))))
 
 unfoldable pub clausesBad : ℕ → ℕ → List ℕ → Bool
 unfolding anyBelow
@@ -82,7 +82,7 @@ unfoldable pub contextBad : List ℕ → ℕ → Bool
 unfolding anyBelow
 contextBad c i =
     ltb 15 (contextNumber c i) || (outside 1 3 (contextLength c i)
-    || (anyBelow 3 (contextSlotBad c i) || (nonzero (firstZero c i) || nonzero (secondZero c i))))
+    || (anyBelow 3 (contextSlotBad c i) || (nonzero (zeroByte14 c i) || nonzero (zeroByte15 c i))))
 
 unfoldable pub contextsBad : List ℕ → Bool
 unfolding anyBelow
@@ -107,10 +107,6 @@ exclusionBad R P x i =
 unfoldable pub exclusionsBad : ℕ → ℕ → List ℕ → Bool
 unfolding anyBelow
 exclusionsBad R P x = anyBelow (recordCount exclusions x) (exclusionBad R P x)
-
--- the number of permissions
-abbrev pub permissionCount : List ℕ → ℕ
-permissionCount b = recordCount permissions (tableOf b permissions)
 
 -- the first of refusals 4 to 9 that applies, or 0
 unfoldable pub recordsRefusal : List ℕ → ℕ

@@ -123,3 +123,7 @@ tableOf b t = cond (eqb (frameRefusal b) 0 && ltb t 7) (partOf b (tableOffset b 
 -- how many records of table t the bytes r hold
 abbrev pub recordCount : ℕ → List ℕ → ℕ
 recordCount t r = length r / width t
+
+-- the number of permissions
+abbrev pub permissionCount : List ℕ → ℕ
+permissionCount b = recordCount permissions (tableOf b permissions)

@@ -3,7 +3,7 @@ ghost use mathlib.Core.Path.{_≡_};
 ghost use Prim.Native.Nat.{_+_, _*_, _≤_, _<_};
 ghost use lib.ListN.{length};
 ghost use Rattle.folds.specs.Below.{anyBelow};
-ghost use Rattle.reader.specs.Rules.{conditionBad, clauseConditionBad, clauseBad, clausesBad};
+ghost use Rattle.reader.specs.Rules.{conditionBad, clauseSlotBad, clauseBad, clausesBad};
 
 fn condition_bad(roles: u8, attribute: u8, operator: u8, value: u8) -> bool
     requires { ⌜ roles ≤ 8 ⌝ }
@@ -22,9 +22,9 @@ fn condition_bad(roles: u8, attribute: u8, operator: u8, value: u8) -> bool
 }
 
 // Condition j of record i, used or not.
-fn clause_condition_bad(k: &[u8], i: usize, j: usize, roles: u8) -> bool
+fn clause_slot_bad(k: &[u8], i: usize, j: usize, roles: u8) -> bool
     requires { ⌜ (16 * i + 16 ≤ length (now k)) × ((j < 4) × (roles ≤ 8)) ⌝ }
-    ensures { λ r. ⌜ r ≡ clauseConditionBad roles (now (k .entry)) i j ⌝ }
+    ensures { λ r. ⌜ r ≡ clauseSlotBad roles (now (k .entry)) i j ⌝ }
 {
     let attribute = k[16 * i + 3 * j + 2];
     let operator = k[16 * i + 3 * j + 3];
@@ -41,12 +41,12 @@ fn clause_condition_bad(k: &[u8], i: usize, j: usize, roles: u8) -> bool
     value != 0
 }
 
-fn conditions_bad(k: &[u8], i: usize, roles: u8) -> bool
+fn clause_slots_bad(k: &[u8], i: usize, roles: u8) -> bool
     requires { ⌜ (16 * i + 16 ≤ length (now k)) × (roles ≤ 8) ⌝ }
-    ensures { λ r. ⌜ r ≡ anyBelow 4 (clauseConditionBad roles (now (k .entry)) i) ⌝ }
+    ensures { λ r. ⌜ r ≡ anyBelow 4 (clauseSlotBad roles (now (k .entry)) i) ⌝ }
 {
     for j in 0..4usize {
-        if clause_condition_bad(k, i, j, roles) {
+        if clause_slot_bad(k, i, j, roles) {
             return true;
         }
     }
@@ -66,7 +66,7 @@ fn clause_bad(k: &[u8], i: usize, roles: u8, permissions: u8) -> bool
     if 4 < k[16 * i + 1] {
         return true;
     }
-    if conditions_bad(k, i, roles) {
+    if clause_slots_bad(k, i, roles) {
         return true;
     }
     if k[16 * i + 14] != 0 {

@@ -2,7 +2,7 @@
 use crate::bytes;
 ghost use mathlib.Core.Path.{_≡_};
 ghost use Prim.Native.Nat.{_≤_, _<_};
-ghost use Rattle.reader.specs.Codes.{parameterOk, divides, heldBy};
+ghost use Rattle.reader.specs.Codes.{parameterOk, codeDivides, heldBy};
 ghost use Rattle.reader.specs.Rules.{usersBad};
 
 // The identity codes of roles 0 to 7.
@@ -11,7 +11,7 @@ const CODES: [u32; 8] = [3, 5, 7, 11, 13, 17, 19, 23];
 // The code of role r divides the parameter x.
 fn code_divides(r: usize, x: u32) -> bool
     requires { ⌜ r < 8 ⌝ }
-    ensures { λ d. ⌜ d ≡ divides r x ⌝ }
+    ensures { λ d. ⌜ d ≡ codeDivides r x ⌝ }
 {
     x % CODES[r] == 0
 }
@@ -30,8 +30,8 @@ fn parameter_ok(x: u32, roles: u8) -> bool
     rest == 1
 }
 
-// Inner: membership, of a user and a role that need not be there.
-pub fn holds(users: &[u8], roles: u8, user: usize, role: usize) -> bool
+// Inner: membership; false where the user or the role isn't there.
+pub fn held_by(users: &[u8], roles: u8, user: usize, role: usize) -> bool
     requires { ⌜ roles ≤ 8 ⌝ }
     ensures { λ h. ⌜ h ≡ heldBy roles (now (users .entry)) user role ⌝ }
 {

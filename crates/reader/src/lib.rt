@@ -3,7 +3,7 @@ ghost use mathlib.Core.Path.{_≡_};
 ghost use Rattle.reader.specs.Tables.{tableOf, frameRefusal};
 ghost use Rattle.reader.specs.Rules.{refusalOf, recordsRefusal};
 
-mod bytes;
+pub mod bytes;
 mod clauses;
 pub mod codes;
 mod contexts;

@@ -1,10 +1,10 @@
 // The trailer: refusals 1 to 3, and where the tables lie.
+use crate::PERMISSIONS;
 use crate::bytes;
 ghost use mathlib.Core.Path.{_≡_};
 ghost use Prim.Native.Nat.{_+_, _≤_, _<_};
 ghost use lib.ListN.{length};
-ghost use Rattle.reader.specs.Tables.{width, limit, tableOffset, tableCount, roleCount, lettersBad, reservedBad, tablesBad, trailerBad, frameRefusal, tableOf};
-ghost use Rattle.reader.specs.Rules.{permissionCount};
+ghost use Rattle.reader.specs.Tables.{width, limit, tableOffset, tableCount, roleCount, lengthBad, lettersBad, reservedBad, tablesBad, trailerBad, frameRefusal, tableOf, permissionCount};
 
 // Bytes a record, and records at most, by table.
 const WIDTHS: [usize; 7] = [2, 4, 2, 16, 16, 8, 3];
@@ -51,6 +51,16 @@ pub fn role_count(base: &[u8]) -> u8
     ensures { λ r. ⌜ r ≡ roleCount (now (base .entry)) ⌝ }
 {
     base[base.len() - 36 + 28]
+}
+
+// Refusal 1.
+fn length_bad(base: &[u8]) -> bool
+    ensures { λ r. ⌜ r ≡ lengthBad (now (base .entry)) ⌝ }
+{
+    if base.len() < 36 {
+        return true;
+    }
+    2364 < base.len()
 }
 
 // Refusal 2.
@@ -121,10 +131,7 @@ fn trailer_bad(base: &[u8]) -> bool
 pub fn frame_refusal(base: &[u8]) -> u8
     ensures { λ r. ⌜ r ≡ frameRefusal (now (base .entry)) ⌝ }
 {
-    if base.len() < 36 {
-        return 1;
-    }
-    if 2364 < base.len() {
+    if length_bad(base) {
         return 1;
     }
     if letters_bad(base) {
@@ -151,5 +158,5 @@ pub fn permission_count(base: &[u8]) -> u8
     requires { ⌜ frameRefusal (now base) ≡ 0 ⌝ }
     ensures { λ r. ⌜ r ≡ permissionCount (now (base .entry)) ⌝ }
 {
-    (part(base, 2).len() / 2) as u8
+    (part(base, PERMISSIONS).len() / 2) as u8
 }

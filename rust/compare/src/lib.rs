@@ -2,6 +2,8 @@
 
 pub mod builder;
 pub mod damage;
+pub mod lively;
+pub mod questions;
 pub mod random;
 pub mod shop;
 pub mod valid;

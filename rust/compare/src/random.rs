@@ -38,4 +38,9 @@ impl Random {
     pub fn pick<T: Copy>(&mut self, choices: &[T]) -> T {
         choices[self.below(choices.len())]
     }
+    pub fn shuffle<T>(&mut self, items: &mut [T]) {
+        for place in 1..items.len() {
+            items.swap(place, self.below(place + 1));
+        }
+    }
 }

@@ -53,7 +53,7 @@ pub fn random_base(random: &mut Random, size: Size) -> BaseBuilder {
     base
 }
 
-fn times<T>(count: usize, make: impl FnMut() -> T) -> Vec<T> {
+pub(crate) fn times<T>(count: usize, make: impl FnMut() -> T) -> Vec<T> {
     std::iter::repeat_with(make).take(count).collect()
 }
 
@@ -63,7 +63,7 @@ fn random_edge(random: &mut Random, roles: u8) -> Edge {
 }
 
 /// Two different numbers below the end, the smaller first.
-fn rising_pair(random: &mut Random, end: u8) -> (u8, u8) {
+pub(crate) fn rising_pair(random: &mut Random, end: u8) -> (u8, u8) {
     let larger = random.between(1, end - 1);
     (random.between(0, larger - 1), larger)
 }
@@ -74,7 +74,7 @@ fn random_user(random: &mut Random, roles: u8) -> User {
     User { parameter }
 }
 
-fn random_permission(random: &mut Random) -> Permission {
+pub(crate) fn random_permission(random: &mut Random) -> Permission {
     Permission {
         operation: random.byte(),
         object: random.byte(),
@@ -120,7 +120,7 @@ fn random_policy(random: &mut Random, roles: u8, permissions: u8) -> Policy {
     }
 }
 
-fn random_exclusion(random: &mut Random, roles: u8, permissions: u8) -> Exclusion {
+pub(crate) fn random_exclusion(random: &mut Random, roles: u8, permissions: u8) -> Exclusion {
     let of_roles = permissions < 2 || (roles > 1 && random.chance(2));
     let (kind, end) = if of_roles {
         (0, roles)

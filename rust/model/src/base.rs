@@ -55,11 +55,7 @@ mod tests {
     use crate::operator::Comparison;
     use crate::records::{ContextCondition, GroupCondition, Measure, Parameter};
     use crate::roles::RoleSet;
-    use crate::small_shop::SMALL_SHOP;
-
-    fn small_shop() -> Base {
-        Base::read(&SMALL_SHOP).expect("the small shop passes")
-    }
+    use crate::samples::small_shop;
 
     #[test]
     fn the_small_shop_has_three_roles_in_a_chain() {

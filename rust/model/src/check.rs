@@ -1,19 +1,17 @@
 //! The base check.
 
 use crate::base::Base;
+use crate::refusal::number;
 
 /// 0 for a base that passes, else the first of refusals 1 to 9 that applies.
 pub fn check(base: &[u8]) -> u8 {
-    match Base::read(base) {
-        Ok(_) => 0,
-        Err(refusal) => refusal.number(),
-    }
+    number(Base::read(base))
 }
 
 #[cfg(test)]
 mod tests {
     use super::*;
-    use crate::small_shop::SMALL_SHOP;
+    use crate::samples::SMALL_SHOP;
 
     /// The answer for the small shop with some bytes set: (place, value).
     fn with(changes: &[(usize, u8)]) -> u8 {

@@ -4,23 +4,48 @@
 //! A [`Base`] exists only for bytes that pass refusals 1 to 9, so whatever
 //! works on a `Base` can rely on every record.
 
+mod answer;
 mod base;
 mod check;
+mod conflicts;
+mod context;
+mod decision;
 mod fields;
+mod group;
 mod layout;
+mod membership;
 mod operator;
+mod reading;
 mod records;
 mod refusal;
+mod related;
+mod release_list;
+mod report;
 mod roles;
 #[cfg(test)]
-mod small_shop;
+mod samples;
+mod seniority;
+mod smallest;
+mod weight;
 
+pub use answer::Answer;
 pub use base::Base;
 pub use check::check;
+pub use conflicts::{conflict_list, conflicts, Conflict};
+pub use context::Context;
+pub use decision::{decide, decide_by, Question};
+pub use group::{Attributes, Entry};
 pub use operator::Comparison;
+pub use reading::Reading;
 pub use records::{
     ContextClause, ContextCondition, Edge, Exclusion, GroupClause, GroupCondition, Measure,
     Parameter, Permission, Policy, User,
 };
 pub use refusal::Refusal;
+pub use related::{related_by_trial, Relations};
+pub use release_list::{lines, render};
+pub use report::{report, report_by};
 pub use roles::{Role, RoleSet};
+pub use seniority::Seniority;
+pub use smallest::{smallest_by_reach, smallest_by_trial, smallest_group};
+pub use weight::Situation;

@@ -159,6 +159,8 @@ pub enum Parameter {
 }
 
 impl Parameter {
+    pub const ALL: [Parameter; 3] = [Parameter::Minute, Parameter::Day, Parameter::Zone];
+
     fn from_number(number: u8) -> Option<Parameter> {
         match number {
             0 => Some(Parameter::Minute),
@@ -169,7 +171,7 @@ impl Parameter {
     }
 
     /// The largest value in the parameter's range.
-    fn last(self) -> u16 {
+    pub fn last(self) -> u16 {
         match self {
             Parameter::Minute => 1439,
             Parameter::Day => 6,

@@ -10,7 +10,7 @@ const CODES: [u32; 8] = [3, 5, 7, 11, 13, 17, 19, 23];
 pub const MOST_ROLES: u8 = CODES.len() as u8;
 
 /// A set of roles, bit r for role r.
-#[derive(Clone, Copy, Debug, PartialEq, Eq)]
+#[derive(Clone, Copy, Debug, Default, PartialEq, Eq, Hash)]
 pub struct RoleSet(u8);
 
 impl RoleSet {
@@ -34,7 +34,16 @@ impl RoleSet {
     }
 
     pub fn has(self, role: Role) -> bool {
-        self.0 & (1 << role) != 0
+        role < MOST_ROLES && self.0 & (1 << role) != 0
+    }
+
+    pub fn contains(self, other: RoleSet) -> bool {
+        other.roles().all(|role| self.has(role))
+    }
+
+    /// The set with this role in it.
+    pub fn with(self, role: Role) -> RoleSet {
+        RoleSet(self.0 | 1 << role)
     }
 
     /// The roles in the set, rising.
@@ -99,5 +108,22 @@ mod tests {
         assert_eq!(RoleSet::from_bits(0b1000, 3), None);
         assert_eq!(RoleSet::from_bits(0b1000_0000, 7), None);
         assert_eq!(RoleSet::from_bits(0b1000_0000, 8), Some(RoleSet(128)));
+    }
+    #[test]
+    fn a_role_is_in_the_set_once() {
+        let set = RoleSet::default().with(2).with(0).with(2);
+        assert_eq!(set, RoleSet(0b101));
+        assert_eq!(set.roles().count(), 2);
+        assert!(set.has(2) && !set.has(1));
+        assert!(!RoleSet(255).has(8) && !RoleSet(255).has(255));
+    }
+
+    #[test]
+    fn a_set_contains_each_of_its_parts() {
+        let set = RoleSet(0b101);
+        let contained = [0b000, 0b001, 0b100, 0b101].map(RoleSet);
+        assert!(contained.iter().all(|&part| set.contains(part)));
+        assert!(!set.contains(RoleSet(0b010)) && !set.contains(RoleSet(0b111)));
+        assert!(RoleSet(0).contains(RoleSet(0)));
     }
 }

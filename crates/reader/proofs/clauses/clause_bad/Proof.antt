@@ -40,12 +40,12 @@ returns-3 : tie.Need-returns-3
 unfolding clauseBad
 returns-3 c = rw (lt-ltb _ _ (c .before .before .before .before .if1 .left), le-ltb _ _ (c .before .before .if2 .left), lt-ltb _ _ (c .if3 .taken))
 
-conditions-bad-requires : tie.Need-conditions-bad-requires
-conditions-bad-requires c κs = search needs
+clause-slots-bad-requires : tie.Need-clause-slots-bad-requires
+clause-slots-bad-requires c κs = search needs
 
 returns-4 : tie.Need-returns-4
 unfolding clauseBad
-returns-4 c = rw (lt-ltb _ _ (c .before .before .before .before .before .before .if1 .left), le-ltb _ _ (c .before .before .before .before .if2 .left), le-ltb _ _ (c .before .before .if3 .left), ← c .before .conditions-bad .ensures, c .if4 .taken)
+returns-4 c = rw (lt-ltb _ _ (c .before .before .before .before .before .before .if1 .left), le-ltb _ _ (c .before .before .before .before .if2 .left), le-ltb _ _ (c .before .before .if3 .left), ← c .before .clause-slots-bad .ensures, c .if4 .taken)
 
 mul-if5 : tie.Need-mul-if5
 mul-if5 c = search needs
@@ -58,7 +58,7 @@ shared-slice-read-if5 c = search needs
 
 returns-5 : tie.Need-returns-5
 unfolding clauseBad
-returns-5 c = rw (lt-ltb _ _ (c .before .before .before .before .before .before .before .before .if1 .left), le-ltb _ _ (c .before .before .before .before .before .before .if2 .left), le-ltb _ _ (c .before .before .before .before .if3 .left), ← c .before .before .before .conditions-bad .ensures, c .before .before .if4 .left, ne-eqb _ _ (c .if5 .taken))
+returns-5 c = rw (lt-ltb _ _ (c .before .before .before .before .before .before .before .before .if1 .left), le-ltb _ _ (c .before .before .before .before .before .before .if2 .left), le-ltb _ _ (c .before .before .before .before .if3 .left), ← c .before .before .before .clause-slots-bad .ensures, c .before .before .if4 .left, ne-eqb _ _ (c .if5 .taken))
 
 mul-result : tie.Need-mul-result
 mul-result c = search needs
@@ -71,7 +71,7 @@ shared-slice-read-result c = search needs
 
 returns-6 : tie.Need-returns-6
 unfolding clauseBad
-returns-6 c = rw (lt-ltb _ _ (c .before .before .before .before .before .before .before .before .before .if1 .left), le-ltb _ _ (c .before .before .before .before .before .before .before .if2 .left), le-ltb _ _ (c .before .before .before .before .before .if3 .left), ← c .before .before .before .before .conditions-bad .ensures, c .before .before .before .if4 .left, eq-eqb _ _ (c .before .if5 .left))
+returns-6 c = rw (lt-ltb _ _ (c .before .before .before .before .before .before .before .before .before .if1 .left), le-ltb _ _ (c .before .before .before .before .before .before .before .if2 .left), le-ltb _ _ (c .before .before .before .before .before .if3 .left), ← c .before .before .before .before .clause-slots-bad .ensures, c .before .before .before .if4 .left, eq-eqb _ _ (c .before .if5 .left))
 
 pub clause-bad-spec : {M : Type 1} → statement M
 clause-bad-spec =
@@ -88,7 +88,7 @@ clause-bad-spec =
     add-if3
     shared-slice-read-if3
     returns-3
-    conditions-bad-requires
+    clause-slots-bad-requires
     returns-4
     mul-if5
     add-if5

@@ -1,8 +1,8 @@
 use borrow.Author.Tests.{lt-ltb, le-ltb}
 use Rattle.reader.specs.Codes.{heldBy}
 use borrow.Author.Needs.{needs}
-use Rattle.reader.proofs.codes.holds.Statement.{statement}
-use Rattle.reader.proofs.codes.holds.Tie as tie
+use Rattle.reader.proofs.codes.held_by.Statement.{statement}
+use Rattle.reader.proofs.codes.held_by.Tie as tie
 
 returns : tie.Need-returns
 unfolding heldBy
@@ -25,6 +25,6 @@ returns-3 : tie.Need-returns-3
 unfolding heldBy
 returns-3 c = rw (lt-ltb _ _ (c .before .before .before .if1 .left), lt-ltb _ _ (c .before .before .if2 .left), ← c .before .get32 .ensures) (c .code-divides .ensures)
 
-pub holds-spec : {M : Type 1} → statement M
-holds-spec =
+pub held-by-spec : {M : Type 1} → statement M
+held-by-spec =
     tie.close (tie.spec returns returns-2 mul-get32 get32-requires code-divides-requires returns-3)

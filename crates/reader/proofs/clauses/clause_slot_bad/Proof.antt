@@ -1,10 +1,10 @@
 use Prim.Native.Nat.{_+_, _*_}
 use borrow.Author.Tests.{ne-eqb, eq-eqb, lt-ltb, le-ltb}
-use Rattle.reader.specs.Rules.{clauseConditionBad}
+use Rattle.reader.specs.Rules.{clauseSlotBad}
 use native.Mathlib.Omega.{arith}
 use borrow.Author.Needs.{needs}
-use Rattle.reader.proofs.clauses.clause_condition_bad.Statement.{statement}
-use Rattle.reader.proofs.clauses.clause_condition_bad.Tie as tie
+use Rattle.reader.proofs.clauses.clause_slot_bad.Statement.{statement}
+use Rattle.reader.proofs.clauses.clause_slot_bad.Tie as tie
 
 mul-attribute : tie.Need-mul-attribute
 mul-attribute c = search needs
@@ -67,23 +67,23 @@ condition-bad-requires : tie.Need-condition-bad-requires
 condition-bad-requires c κs = search needs
 
 returns : tie.Need-returns
-unfolding clauseConditionBad
+unfolding clauseSlotBad
 returns c = rw (lt-ltb _ _ (c .before .if1 .taken)) (c .condition-bad .ensures)
 
 returns-2 : tie.Need-returns-2
-unfolding clauseConditionBad
+unfolding clauseSlotBad
 returns-2 c = rw (le-ltb _ _ (c .before .if1 .left), ne-eqb _ _ (c .if2 .taken))
 
 returns-3 : tie.Need-returns-3
-unfolding clauseConditionBad
+unfolding clauseSlotBad
 returns-3 c = rw (le-ltb _ _ (c .before .before .if1 .left), eq-eqb _ _ (c .before .if2 .left), ne-eqb _ _ (c .if3 .taken))
 
 returns-4 : tie.Need-returns-4
-unfolding clauseConditionBad
+unfolding clauseSlotBad
 returns-4 c = rw (le-ltb _ _ (c .before .before .if1 .left), eq-eqb _ _ (c .before .if2 .left), eq-eqb _ _ (c .if3 .left))
 
-pub clause-condition-bad-spec : {M : Type 1} → statement M
-clause-condition-bad-spec =
+pub clause-slot-bad-spec : {M : Type 1} → statement M
+clause-slot-bad-spec =
     tie.close
     (tie.spec
     mul-attribute

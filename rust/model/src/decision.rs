@@ -1,0 +1,262 @@
+//! The decision for one group.
+
+use crate::base::Base;
+use crate::context::Context;
+use crate::group::{entries, Attributes, Entry};
+use crate::reading::Reading;
+use crate::refusal::{number, refuse_if, Refusal};
+use crate::roles::Role;
+use crate::weight::Situation;
+
+/// 0 if the group is granted the permission, else the first of refusals 1 to
+/// 17 that applies.
+pub fn decide(base: &[u8], permission: u32, at: Context, group: &[u8]) -> u8 {
+    decide_by(Reading::Paper, base, permission, at, group)
+}
+
+/// The decision by this reading.
+pub fn decide_by(reading: Reading, base: &[u8], permission: u32, at: Context, group: &[u8]) -> u8 {
+    number(Base::read(base).and_then(|base| {
+        let question = Question::new(&base, permission, at, reading)?;
+        question.ask(group)
+    }))
+}
+
+/// A permission and a context to ask about: refusals 10 and 11 don't apply.
+pub struct Question<'a> {
+    pub base: &'a Base,
+    permission: u8,
+    /// Each role's weight for the permission.
+    weights: Vec<u32>,
+    reading: Reading,
+}
+
+impl<'a> Question<'a> {
+    pub fn new(
+        base: &'a Base,
+        permission: u32,
+        at: Context,
+        reading: Reading,
+    ) -> Result<Question<'a>, Refusal> {
+        let permission = base.permission(permission).ok_or(Refusal::NoPermission)?;
+        refuse_if(!at.in_range(), Refusal::Context)?;
+        let situation = Situation::new(base, at, reading);
+        let weights = (0..base.roles)
+            .map(|role| situation.weight(role, permission))
+            .collect();
+        Ok(Question {
+            base,
+            permission,
+            weights,
+            reading,
+        })
+    }
+
+    /// Refusals 12 to 17, each over all entries before the next.
+    pub fn ask(&self, group: &[u8]) -> Result<(), Refusal> {
+        let group = entries(group).ok_or(Refusal::GroupLength)?;
+        let any = |bad: &dyn Fn(&Entry) -> bool| group.iter().any(bad);
+        refuse_if(any(&|entry| !self.is_there(entry)), Refusal::NoUserOrRole)?;
+        refuse_if(has_user_twice(&group), Refusal::UserTwice)?;
+        refuse_if(any(&|entry| !self.is_eligible(entry)), Refusal::Membership)?;
+        refuse_if(
+            any(&|entry| self.weight(entry.role) == 0),
+            Refusal::NoWeight,
+        )?;
+        refuse_if(
+            !self.condition_holds(self.attributes(&group)),
+            Refusal::Condition,
+        )
+    }
+
+    pub fn grants(&self, group: &[u8]) -> bool {
+        self.ask(group).is_ok()
+    }
+
+    fn is_there(&self, entry: &Entry) -> bool {
+        usize::from(entry.user) < self.base.users.len() && entry.role < self.base.roles
+    }
+
+    /// Whether the entry's user may act in its role for this permission.
+    fn is_eligible(&self, entry: &Entry) -> bool {
+        self.base.may_act(entry.user, entry.role)
+    }
+
+    pub fn weight(&self, role: Role) -> u32 {
+        self.weights[usize::from(role)]
+    }
+
+    /// The entries that a user may stand in: eligible and with weight.
+    pub fn entries_of(&self, user: u8) -> impl Iterator<Item = Entry> + '_ {
+        (0..self.base.roles)
+            .map(move |role| Entry { user, role })
+            .filter(|entry| self.is_eligible(entry) && self.weight(entry.role) > 0)
+    }
+
+    fn attributes(&self, group: &[Entry]) -> Attributes {
+        group.iter().fold(Attributes::default(), |before, entry| {
+            before.joined_by(entry.role, self.weight(entry.role))
+        })
+    }
+
+    /// Whether one of the permission's K clauses holds.
+    pub fn condition_holds(&self, group: Attributes) -> bool {
+        let clauses = self.base.group_clauses.iter();
+        let clauses = clauses.filter(|clause| clause.permission == self.permission);
+        group.pass(clauses, self.reading)
+    }
+}
+
+impl Base {
+    /// The permission with this number, if it is in P.
+    fn permission(&self, number: u32) -> Option<u8> {
+        let number = u8::try_from(number).ok()?;
+        (usize::from(number) < self.permissions.len()).then_some(number)
+    }
+}
+
+fn has_user_twice(group: &[Entry]) -> bool {
+    let mut users: Vec<u8> = group.iter().map(|entry| entry.user).collect();
+    users.sort();
+    users.windows(2).any(|pair| pair[0] == pair[1])
+}
+
+#[cfg(test)]
+mod tests {
+    use super::*;
+    use crate::samples::{at_minute, random_base, small_shop, user, Draws, SMALL_SHOP};
+
+    const MANAGER: [u8; 2] = [0, 0];
+    const BUYER: [u8; 2] = [1, 1];
+    const CLERK: [u8; 2] = [2, 2];
+    const OTHER_CLERK: [u8; 2] = [3, 2];
+
+    /// The small shop's answer for its permission.
+    fn ask(minute: u32, group: &[[u8; 2]]) -> u8 {
+        decide(&SMALL_SHOP, 0, at_minute(minute), &group.concat())
+    }
+
+    #[test]
+    fn marked_case_4_the_manager_alone_is_one_entry() {
+        assert_eq!(ask(600, &[MANAGER]), 17);
+    }
+
+    #[test]
+    fn marked_case_5_manager_and_clerk_are_granted() {
+        assert_eq!(ask(600, &[MANAGER, CLERK]), 0);
+        assert_eq!(ask(600, &[OTHER_CLERK, MANAGER]), 0);
+    }
+
+    #[test]
+    fn marked_case_6_buyer_and_both_clerks_weigh_too_little() {
+        assert_eq!(ask(600, &[BUYER, CLERK, OTHER_CLERK]), 17);
+    }
+
+    #[test]
+    fn marked_case_7_early_the_clerk_has_no_weight() {
+        assert_eq!(ask(480, &[MANAGER, CLERK]), 16);
+        assert_eq!(ask(480, &[MANAGER, BUYER]), 0);
+    }
+
+    #[test]
+    fn marked_case_8_a_user_twice_or_in_a_role_not_held() {
+        assert_eq!(ask(600, &[MANAGER, MANAGER]), 14);
+        assert_eq!(ask(600, &[MANAGER, [0, 1]]), 14);
+        assert_eq!(ask(600, &[MANAGER, [2, 1]]), 15);
+    }
+
+    #[test]
+    fn a_refused_base_comes_first() {
+        assert_eq!(decide(&SMALL_SHOP[1..], 1, at_minute(1440), &[]), 3);
+        assert_eq!(decide(&[], 1, at_minute(1440), &[]), 1);
+    }
+
+    #[test]
+    fn numbers_are_not_cut_to_bytes() {
+        let zone = |zone| Context {
+            zone,
+            ..at_minute(600)
+        };
+        let group = [MANAGER, CLERK].concat();
+        for permission in [1, 255, 256, 65_536, u32::MAX] {
+            assert_eq!(decide(&SMALL_SHOP, permission, zone(256), &group), 10);
+        }
+        assert_eq!(decide(&SMALL_SHOP, 0, zone(255), &group), 0);
+        assert_eq!(decide(&SMALL_SHOP, 0, zone(256), &group), 11);
+        assert_eq!(decide(&SMALL_SHOP, 0, at_minute(65_536 + 600), &group), 11);
+    }
+
+    #[test]
+    fn a_context_out_of_range_beats_the_groups_length() {
+        assert_eq!(decide(&SMALL_SHOP, 0, at_minute(1440), &[]), 11);
+        assert_eq!(decide(&SMALL_SHOP, 0, at_minute(1439), &[]), 12);
+    }
+
+    #[test]
+    fn a_length_fault_beats_every_bad_entry() {
+        for length in [0, 1, 3, 11, 13, 14, 40] {
+            let group = vec![255; length];
+            assert_eq!(decide(&SMALL_SHOP, 0, at_minute(600), &group), 12);
+        }
+        assert_eq!(decide(&SMALL_SHOP, 0, at_minute(600), &[255; 12]), 13);
+    }
+
+    #[test]
+    fn users_and_roles_end_with_their_tables() {
+        for entry in [[4, 2], [255, 2], [2, 3], [2, 8], [2, 255]] {
+            assert_eq!(ask(600, &[entry]), 13);
+        }
+    }
+
+    #[test]
+    fn each_check_goes_over_all_entries_before_the_next() {
+        let (not_held, no_weight) = ([1, 2], [2, 2]);
+        let rising = [[9, 9], MANAGER, MANAGER, not_held, no_weight];
+        assert_eq!(ask(480, &rising), 13);
+        assert_eq!(ask(480, &rising[1..]), 14);
+        assert_eq!(ask(480, &rising[2..]), 15);
+        assert_eq!(ask(480, &[MANAGER, no_weight]), 16);
+        let falling = [no_weight, not_held, MANAGER, MANAGER, [9, 9]];
+        assert_eq!(ask(480, &falling), 13);
+        assert_eq!(ask(480, &falling[..4]), 14);
+        assert_eq!(ask(480, &falling[..3]), 15);
+        assert_eq!(ask(480, &falling[..1]), 16);
+    }
+
+    fn answer(base: &Base, group: &[u8]) -> u8 {
+        let question = Question::new(base, 0, at_minute(600), Reading::Paper);
+        number(question.and_then(|question| question.ask(group)))
+    }
+
+    #[test]
+    fn a_user_without_roles_holds_none() {
+        let mut shop = small_shop();
+        shop.users[0] = user(&[]);
+        for role in 0..3 {
+            assert_eq!(answer(&shop, &[0, role]), 15);
+        }
+    }
+
+    #[test]
+    fn without_a_clause_of_its_own_a_permission_is_never_granted() {
+        let mut shop = small_shop();
+        shop.permissions.push(shop.permissions[0].clone());
+        shop.group_clauses[0].permission = 1;
+        assert_eq!(answer(&shop, &[0, 0, 2, 2]), 17);
+    }
+
+    #[test]
+    fn the_order_of_entries_does_not_matter() {
+        let mut draws = Draws::new(2);
+        for _ in 0..500 {
+            let base = random_base(&mut draws, 6);
+            let count = draws.below(7);
+            let mut group: Vec<[u8; 2]> = (0..count)
+                .map(|_| [draws.byte(0, 6), draws.byte(0, 4)])
+                .collect();
+            let before = answer(&base, &group.concat());
+            group.reverse();
+            assert_eq!(answer(&base, &group.concat()), before);
+        }
+    }
+}

@@ -1,0 +1,185 @@
+//! The paper's example and other bases, for the tests.
+
+use crate::base::Base;
+use crate::context::Context;
+use crate::operator::Comparison;
+use crate::records::*;
+use crate::roles::{Role, RoleSet};
+
+/// The small shop: its tables from byte 0, then the trailer.
+#[rustfmt::skip]
+pub const SMALL_SHOP: [u8; 114] = [
+    // H
+    0, 1, 1, 2,
+    // U
+    3, 0, 0, 0, 5, 0, 0, 0, 7, 0, 0, 0, 7, 0, 0, 0,
+    // P
+    1, 1,
+    // K
+    0, 2, 0, 2, 2, 1, 2, 5, 0, 0, 0, 0, 0, 0, 0, 0,
+    // C: minutes 540 and 1020
+    0, 2, 0, 2, 0x1c, 0x02, 0, 3, 0xfc, 0x03, 0, 0, 0, 0, 0, 0,
+    // A
+    0, 0, 3, 0, 255, 0, 0, 0,
+    1, 0, 1, 1, 255, 0, 0, 0,
+    2, 0, 1, 1, 0, 0, 0, 0,
+    // offsets and counts
+    0, 0, 2, 0,  4, 0, 4, 0,  20, 0, 1, 0,  22, 0, 1, 0,
+    38, 0, 1, 0,  54, 0, 3, 0,  78, 0, 0, 0,
+    // R, zero bytes, letters
+    3, 0, 0, 0, b'L', b'C', b'A', b'P',
+];
+
+pub fn small_shop() -> Base {
+    Base::read(&SMALL_SHOP).expect("the small shop passes")
+}
+
+/// A base without records.
+pub fn empty_base(roles: u8) -> Base {
+    Base {
+        roles,
+        hierarchy: vec![],
+        users: vec![],
+        permissions: vec![],
+        group_clauses: vec![],
+        context_clauses: vec![],
+        policies: vec![],
+        exclusions: vec![],
+    }
+}
+
+pub fn at_minute(minute: u32) -> Context {
+    Context {
+        minute,
+        day: 0,
+        zone: 0,
+    }
+}
+
+pub fn edge(senior: Role, junior: Role) -> Edge {
+    Edge { senior, junior }
+}
+
+pub fn user(roles: &[Role]) -> User {
+    let roles = roles.iter().fold(RoleSet::default(), |set, &r| set.with(r));
+    User { roles }
+}
+
+/// A policy for permission 0.
+pub fn policy(role: Role, weight: u8, inheritable: bool, context: Option<u8>) -> Policy {
+    Policy {
+        role,
+        permission: 0,
+        weight,
+        inheritable,
+        context,
+        rank: 0,
+        issue_day: 0,
+    }
+}
+
+pub fn condition(parameter: Parameter, comparison: Comparison, value: u16) -> ContextCondition {
+    ContextCondition {
+        parameter,
+        comparison,
+        value,
+    }
+}
+
+pub fn context_clause(context: u8, conditions: &[ContextCondition]) -> ContextClause {
+    ContextClause {
+        context,
+        conditions: conditions.to_vec(),
+    }
+}
+
+/// A clause for permission 0.
+pub fn group_clause(conditions: &[GroupCondition]) -> GroupClause {
+    GroupClause {
+        permission: 0,
+        conditions: conditions.to_vec(),
+    }
+}
+
+/// Numbers that look random and repeat from run to run.
+pub struct Draws(u64);
+
+impl Draws {
+    pub fn new(seed: u64) -> Draws {
+        Draws(seed)
+    }
+
+    pub fn below(&mut self, end: usize) -> usize {
+        self.0 ^= self.0 << 13;
+        self.0 ^= self.0 >> 7;
+        self.0 ^= self.0 << 17;
+        (self.0 >> 16) as usize % end
+    }
+
+    pub fn byte(&mut self, first: u8, last: u8) -> u8 {
+        first + self.below(usize::from(last - first) + 1) as u8
+    }
+
+    fn comparison(&mut self) -> Comparison {
+        Comparison::from_number(self.byte(0, 5)).expect("operators 0 to 5 compare")
+    }
+}
+
+/// Some H records, repeats and all.
+pub fn random_hierarchy(draws: &mut Draws, roles: u8) -> Vec<Edge> {
+    let count = draws.below(2 * usize::from(roles));
+    let record = |_| {
+        let junior = draws.byte(1, roles - 1);
+        edge(draws.byte(0, junior - 1), junior)
+    };
+    (0..count).map(record).collect()
+}
+
+/// A base of one permission with up to so many users and up to four roles. No
+/// context but 255.
+pub fn random_base(draws: &mut Draws, most_users: usize) -> Base {
+    let roles = draws.byte(2, 4);
+    let users = most_users - draws.below(2) * draws.below(most_users + 1);
+    let clauses = draws.below(4);
+    Base {
+        permissions: small_shop().permissions,
+        hierarchy: random_hierarchy(draws, roles),
+        users: (0..users).map(|_| random_user(draws, roles)).collect(),
+        policies: (0..6).map(|_| random_policy(draws, roles)).collect(),
+        group_clauses: (0..clauses).map(|_| random_clause(draws, roles)).collect(),
+        ..empty_base(roles)
+    }
+}
+
+fn random_user(draws: &mut Draws, roles: u8) -> User {
+    let set = RoleSet::from_bits(draws.byte(0, 255) >> (8 - roles), roles);
+    User {
+        roles: set.expect("the roles are there"),
+    }
+}
+
+fn random_policy(draws: &mut Draws, roles: u8) -> Policy {
+    let inheritable = draws.below(2) == 0;
+    policy(
+        draws.byte(0, roles - 1),
+        draws.byte(1, 5),
+        inheritable,
+        None,
+    )
+}
+
+fn random_clause(draws: &mut Draws, roles: u8) -> GroupClause {
+    let count = 1 + draws.below(3);
+    let condition = |_| random_condition(draws, roles);
+    group_clause(&(0..count).map(condition).collect::<Vec<_>>())
+}
+
+fn random_condition(draws: &mut Draws, roles: u8) -> GroupCondition {
+    let comparison = draws.comparison();
+    match draws.below(4) {
+        0 => GroupCondition::Compare(Measure::ColNum, comparison, draws.byte(0, 6)),
+        1 => GroupCondition::Compare(Measure::TotalWeight, comparison, draws.byte(0, 40)),
+        2 => GroupCondition::Compare(Measure::RoleNum, comparison, draws.byte(0, 4)),
+        _ => GroupCondition::Contains(RoleSet::default().with(draws.byte(0, roles - 1))),
+    }
+}
