@@ -3,8 +3,8 @@ use mathlib.Core.Bool.{Bool, true, false, _&&_, _||_, not, false≢true}
 use mathlib.Core.Path.{_≡_, refl, sym}
 use mathlib.Core.Logic.{_⊎_, inl, inr, ⊎-elim}
 use Prim.Native.Nat.{ℕ}
-use borrow.Author.Tests.{lt-ltb, le-ltb, leb-true, leb-false}
-use lib.Dec.{ltb, leb}
+use borrow.Author.Tests.{lt-ltb, le-ltb, leb-true, leb-false, eqb-true, eq-eqb}
+use lib.Dec.{ltb, leb, eqb}
 
 pub and-left : (a b : Bool) → (a && b) ≡ true → a ≡ true
 and-left true b h = refl
@@ -45,3 +45,7 @@ same-test false false h k = refl
 pub not-ltb : (a b : ℕ) → not (ltb a b) ≡ leb b a
 not-ltb a b =
     ⊎-elim (λ h. rw (le-ltb a b (leb-true b a h), h)) (λ h. rw (lt-ltb a b (leb-false b a h), h)) (met-or-not (leb b a))
+
+pub eqb-sym : (a b : ℕ) → eqb a b ≡ eqb b a
+eqb-sym a b =
+    same-test (eqb a b) (eqb b a) (λ h. eq-eqb b a (sym (eqb-true a b h))) (λ h. eq-eqb a b (sym (eqb-true b a h)))

@@ -3,9 +3,12 @@ use Prim.Native.Nat.{ℕ, zero, suc, _+_, _*_, _<_, _≤_}
 use mathlib.Core.Bool.{Bool, true, false, cond}
 use mathlib.Core.Path.{_≡_, refl}
 use native.Mathlib.Numerals.{add-one}
-use native.Mathlib.Nat.{add-zero, add-suc, add-assoc, mul-one, mul-assoc, mul-pos, suc-mul, eq-or-lt-of-le, le-of-suc-le-suc}
+use native.Mathlib.Nat.{not-suc-le-zero, add-comm, zero-add, add-zero, add-suc, add-assoc, mul-one, mul-assoc, mul-pos, suc-mul, eq-or-lt-of-le, le-of-suc-le-suc}
 use mathlib.Core.Logic.{⊎-elim}
 use native.Mathlib.Omega.{arith}
+use borrow.Author.Tests.{eq-eqb, ne-eqb}
+use lib.Dec.{eqb}
+use Rattle.folds.proofs.Tests.{split}
 use Rattle.folds.specs.Below.{sumBelow, productBelow, countBelow}
 
 module _ (f : ℕ → ℕ) where
@@ -20,6 +23,10 @@ module _ (f : ℕ → ℕ) where
   pub sum-step : (n : ℕ) → sumBelow (suc n) f ≡ sumBelow n f + f n
   unfolding sumBelow
   sum-step n = refl
+
+  pub sum-one : sumBelow 1 f ≡ f 0
+  unfolding sumBelow
+  sum-one = zero-add (f 0)
 
   -- what the numbers below m add, and then the next n
   pub sum-split : (m n : ℕ) → sumBelow (m + n) f ≡ sumBelow m f + sumBelow n (λ i. f (m + i))
@@ -56,6 +63,22 @@ module _ (f : ℕ → ℕ) where
       ⊎-elim (λ q. rw q)
       (λ l. rw (z n (le-of-suc-le-suc l) (omega arith), add-zero) (sum-tail m n (le-of-suc-le-suc l) (λ i k j. z i k (omega arith))))
       (eq-or-lt-of-le h)
+
+  -- one number, and the others
+  pub sum-pick : (n j : ℕ) → j < n → sumBelow n f ≡ f j + sumBelow n (λ k. cond (eqb k j) 0 (f k))
+  unfolding sumBelow
+  sum-pick zero j l = elim (not-suc-le-zero l) [ ]
+  sum-pick (suc n) j l =
+      split l
+      (λ q. rw (q, eq-eqb n n refl, add-zero, sum-others n) (add-comm (sumBelow n f) (f n)))
+      (λ m. rw (sum-pick n j m, ne-eqb n j (λ q. omega arith)) (add-assoc (f j) (sumBelow n (λ k. cond (eqb k j) 0 (f k))) (f n)))
+    where
+      sum-others : (n : ℕ) → sumBelow n (λ k. cond (eqb k n) 0 (f k)) ≡ sumBelow n f
+      sum-others n = below n n (omega arith)
+        where
+          below : (m n : ℕ) → m ≤ n → sumBelow m (λ k. cond (eqb k n) 0 (f k)) ≡ sumBelow m f
+          below zero n h = refl
+          below (suc m) n h = rw (below m n (omega arith), ne-eqb m n (λ q. omega arith))
 
   pub product-none : productBelow 0 f ≡ 1
   unfolding productBelow

@@ -12,7 +12,7 @@ use lib.Count.{ones, onesIn, ones-cat}
 use borrow.Author.Tests.{eqb-true, eq-eqb, ne-eqb}
 use Rattle.folds.specs.Below.{countBelow}
 use Rattle.folds.specs.Sets.{inSet, setBelow, contains}
-use Rattle.folds.proofs.Bools.{and-left, same-test, clash}
+use Rattle.folds.proofs.Bools.{and-left, same-test, clash, eqb-sym}
 use Rattle.folds.proofs.Tests.{split, all-at, all-each}
 use Rattle.folds.proofs.Numbers.{sum-none, sum-more, sum-same, count-none, count-more}
 
@@ -191,3 +191,7 @@ or-assoc a b c =
     let h = lt-power (a + b + c) in
     same-set (a + b + c) (bitOr (bitOr a b) c) (bitOr a (bitOr b c)) (omega (arith, or-add-and (bitOr a b) c, or-add-and a b))
     (omega (arith, or-add-and a (bitOr b c), or-add-and b c)) (λ r l. simp (in-or, mathlib.Core.Bool.or-assoc))
+
+-- a set with one number more
+pub in-added : (s k r : ℕ) → inSet (bitOr s (2 ^ k)) r ≡ (inSet s r || eqb k r)
+in-added s k r = in-or s (2 ^ k) r ∙ ap (λ (b : Bool). inSet s r || b) (in-one k r ∙ eqb-sym r k)

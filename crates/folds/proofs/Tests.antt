@@ -1,6 +1,6 @@
 -- Laws of the tests below n: all, any, first.
 use Prim.Native.Nat.{ℕ, zero, suc, _+_, _<_, _≤_}
-use mathlib.Core.Bool.{Bool, true, false, and-false, or-true, cond}
+use mathlib.Core.Bool.{Bool, true, false, and-false, or-true, cond, _||_}
 use mathlib.Core.Path.{_≡_, refl}
 use mathlib.Core.Logic.{_⊎_, ⊎-elim}
 use native.Mathlib.Numerals.{add-one}
@@ -46,6 +46,10 @@ module _ (p : ℕ → Bool) where
   pub any-more : (i : ℕ) → anyBelow i p ≡ false → p i ≡ false → anyBelow (i + 1) p ≡ false
   unfolding anyBelow
   any-more i h e = rw (add-one, h, e)
+
+  pub any-next : (i : ℕ) → anyBelow (i + 1) p ≡ (anyBelow i p || p i)
+  unfolding anyBelow
+  any-next i = rw add-one
 
   pub any-found : (n i : ℕ) → i < n → p i ≡ true → anyBelow n p ≡ true
   unfolding anyBelow

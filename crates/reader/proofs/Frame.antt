@@ -6,13 +6,13 @@ use mathlib.Core.List.{List}
 use native.Mathlib.Omega.{arith}
 use native.Mathlib.Nat.{mul-le-mul, mul-div-cancel, min-eq-left, le-trans, suc-ne-zero}
 use borrow.Author.Tests.{leb-true, ltb-true, ltb-false, eqb-true, not-false, lt-ltb, eq-eqb}
-use lib.Dec.{leb, ltb}
+use lib.Dec.{lit<, leb, ltb}
 use lib.ListN.{length, length-take, length-drop}
 use Rattle.folds.specs.Below.{allBelow, anyBelow}
 use Rattle.folds.proofs.Bools.{or-left, or-right}
 use Rattle.folds.proofs.Tests.{all-at, any-at}
 use Rattle.folds.proofs.Numbers.{sum-step, sum-le-sum}
-use Rattle.reader.specs.Tables.{width, limit, trailer, tableOffset, tableCount, tableSize, tableStart, tableBad, tablesBad, rolesBad, roleCount, reservedBad, trailerBad, lengthBad, lettersBad, frameRefusal, partOf, tableOf, recordCount}
+use Rattle.reader.specs.Tables.{width, limit, trailer, tableOffset, tableCount, tableSize, tableStart, tableBad, tablesBad, rolesBad, roleCount, reservedBad, trailerBad, lengthBad, lettersBad, frameRefusal, partOf, tableOf, recordCount, permissionCount}
 
 pub width-le : (t : ℕ) → t < 7 → width t ≤ 16
 unfolding allBelow
@@ -106,3 +106,7 @@ module _ (b : List ℕ) (ok : frameRefusal b ≡ 0) (t : ℕ) (there : t < 7) wh
   -- the number of records in it is the trailer's count
   pub record-count : recordCount t (tableOf b t) ≡ tableCount b t
   record-count = rw table-length (mul-div-cancel (tableCount b t) (width-pos t there))
+
+-- there are at most 16 permissions
+pub permissions-le : (b : List ℕ) → frameRefusal b ≡ 0 → permissionCount b ≤ 16
+permissions-le b ok = rw (record-count b ok 2 (lit< tt)) (count-limit b ok 2 (lit< tt))

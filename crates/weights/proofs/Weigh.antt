@@ -1,0 +1,160 @@
+-- The weights of all roles: what the pass over A and the juniors' sets give is the paper's weight; its bounds.
+use Prim.Native.Nat.{ℕ, zero, suc, _+_, _*_, _<_, _≤_}
+use mathlib.Core.Bool.{Bool, true, false, not, cond}
+use mathlib.Core.Path.{_≡_, ap, ap₂, _∙_}
+use mathlib.Core.Logic.{⊎-elim, _↔_}
+use mathlib.Core.List.{List}
+use native.Mathlib.Omega.{arith}
+use native.Mathlib.Nat.{lt-of-lt-of-le, lt-irrefl, not-suc-le-zero, add-zero}
+use native.Mathlib.Numerals.{one-add}
+use borrow.Author.Tests.{ne-eqb, lt-ltb}
+use lib.Dec.{ltb, eqb}
+use lib.ListN.{getD}
+use Rattle.folds.specs.Below.{sumBelow}
+use Rattle.folds.specs.Sets.{inSet}
+use Rattle.folds.proofs.Bools.{met-or-not, or-right}
+use Rattle.folds.proofs.Tests.{any-at, any-each}
+use Rattle.folds.proofs.Numbers.{sum-same, sum-tail, sum-split, sum-le, sum-none, sum-one, sum-zero, sum-pick}
+use Rattle.reader.specs.Tables.{hierarchy, contexts, policies, roleCount, tableOf, recordCount}
+use Rattle.reader.specs.Fields.{policyRole, policyPermission, policyContext}
+use Rattle.reader.specs.Rules.{policyBad, policiesBad, refusalOf}
+use Rattle.reader.proofs.Frame.{roles-range, permissions-le}
+use Rattle.reader.proofs.Accepted.{accepted, policy-fine}
+use Rattle.weights.specs.declared.Context.{Context}
+use Rattle.weights.specs.declared.Fixed.{Fixed}
+use Rattle.weights.specs.declared.ChosenWeights.{ChosenWeights}
+use Rattle.weights.specs.Contexts.{contextHolds}
+use Rattle.weights.specs.Seniority.{Chain, seniorTo}
+use Rattle.weights.specs.Weights.{chosenWeight, anyType, typeOne, own, inh, share, weight}
+use Rattle.weights.specs.Setting.{FixedBy, inForceBy, AreChosen, Summed, handedOn, AreWeights}
+use Rattle.weights.proofs.Chains.{senior-down, senior-chain}
+use Rattle.weights.proofs.Choice.{chosen-same, chosen-le, chosen-zero}
+
+-- a table A that passed the check passes it with more roles and permissions
+pub policies-wider : (R P : ℕ) (a : List ℕ) → R ≤ 8 → P ≤ 256 → policiesBad R P a ≡ false → policiesBad 8 256 a ≡ false
+unfolding policiesBad policyBad
+policies-wider R P a r p fine =
+    any-each (policyBad 8 256 a) (recordCount policies a)
+    (λ i m. let f = policy-fine R P a i fine m in
+    rw (lt-ltb _ _ (lt-of-lt-of-le (f .role) r), lt-ltb _ _ (lt-of-lt-of-le (f .permission) p))
+    (or-right (not (ltb (policyPermission a i) P)) _ (or-right (not (ltb (policyRole a i) R)) _ (any-at (policyBad R P a) _ fine i m))))
+
+module _ (b : List ℕ) (ok : refusalOf b ≡ 0) where
+  small : roleCount b ≤ 8
+  small = roles-range b (accepted b ok .frame) .1
+
+  pub policies-fine : policiesBad 8 256 (tableOf b policies) ≡ false
+  policies-fine =
+      policies-wider _ _ (tableOf b policies) small (let h = permissions-le b (accepted b ok .frame) in omega arith) (accepted b ok .policies)
+
+  -- no policy that counts weighs more than 5
+  pub chosen-five : (inForce f : ℕ → Bool) (p r : ℕ) → chosenWeight inForce f (tableOf b policies) (recordCount policies (tableOf b policies)) r p ≤ 5
+  chosen-five inForce f p r = chosen-le inForce f (tableOf b policies) r p 5 _ (λ i l. policy-fine 8 256 (tableOf b policies) i policies-fine l .weight-le)
+
+  -- there is no policy of a role at R or above
+  pub chosen-high : (inForce f : ℕ → Bool) (p r : ℕ) → roleCount b ≤ r → chosenWeight inForce f (tableOf b policies) (recordCount policies (tableOf b policies)) r p ≡ 0
+  chosen-high inForce f p r h =
+      chosen-zero inForce f (tableOf b policies) r p _
+      (λ i l. let g = policy-fine _ _ (tableOf b policies) i (accepted b ok .policies) l .role in
+      rw (ne-eqb (policyRole (tableOf b policies) i) r (λ q. omega arith)))
+
+  module _ (at : Context) (p : ℕ) where
+    pub own-le : (r : ℕ) → own b at r p ≤ 5
+    unfolding own
+    own-le r = chosen-five (contextHolds at (tableOf b contexts)) anyType p r
+
+    pub inh-le : (r : ℕ) → inh b at r p ≤ 5
+    unfolding inh
+    inh-le r = chosen-five (contextHolds at (tableOf b contexts)) typeOne p r
+
+    share-le : (r j : ℕ) → share b at p r j ≤ 5
+    share-le r j = by (seniorTo (tableOf b hierarchy) r j)
+      where
+        by : (t : Bool) → cond t (inh b at j p) 0 ≤ 5
+        by true = inh-le j
+        by false = omega arith
+
+    -- nothing comes from a role that isn't a junior: r itself, one with a smaller number, one at R or above
+    pub share-none : (r j : ℕ) → (r < j → j < roleCount b → ⊥) → share b at p r j ≡ 0
+    share-none r j h =
+        ⊎-elim (λ e. let d = senior-down (roleCount b) (tableOf b hierarchy) small (accepted b ok .hierarchy) r j e in absurd (h (d .0) (d .1)))
+        (λ e. rw e) (met-or-not (seniorTo (tableOf b hierarchy) r j))
+
+    -- a role hands nothing on to itself
+    pub self-none : (r : ℕ) → share b at p r r ≡ 0
+    self-none r = share-none r r (λ l k. lt-irrefl r l)
+
+    -- role 0 is nobody's junior, so at most seven shares come together
+    shares-le : (r n : ℕ) → n ≤ 8 → sumBelow n (share b at p r) ≤ 35
+    shares-le r zero h = rw (sum-none (share b at p r)) (omega arith)
+    shares-le r (suc n) h =
+        let l : sumBelow n (λ i. share b at p r (1 + i)) ≤ n * 5 = sum-le (λ i. share b at p r (1 + i)) 5 n (λ i l. share-le r (1 + i)) in
+        rw (← one-add n, sum-split (share b at p r) 1 n, sum-one (share b at p r), share-none r 0 (λ l k. absurd (not-suc-le-zero l))) (omega arith)
+
+    -- each junior counts once: its share, and those of the others
+    pub weight-once : (r j : ℕ) → Chain (tableOf b hierarchy) r j →
+        weight b at r p ≡ own b at r p + (inh b at j p + sumBelow (roleCount b) (λ k. cond (eqb k j) 0 (share b at p r k)))
+    unfolding weight
+    weight-once r j c =
+        let e = senior-chain (roleCount b) (tableOf b hierarchy) small (accepted b ok .hierarchy) r j .1 c in
+        let d = senior-down (roleCount b) (tableOf b hierarchy) small (accepted b ok .hierarchy) r j e in
+        let q : share b at p r j ≡ inh b at j p = rw e in
+        ap (λ (x : ℕ). own b at r p + x)
+        (sum-pick (share b at p r) (roleCount b) j (d .1)
+        ∙ ap (λ (x : ℕ). x + sumBelow (roleCount b) (λ k. cond (eqb k j) 0 (share b at p r k))) q)
+
+    -- a role without juniors has its own weight alone, whatever the types of its policies
+    pub weight-alone : (r : ℕ) → ((j : ℕ) → Chain (tableOf b hierarchy) r j → ⊥) → weight b at r p ≡ own b at r p
+    unfolding weight
+    weight-alone r h =
+        rw (sum-zero (share b at p r) (roleCount b) (λ j l. none j)) (add-zero _)
+      where
+        none : (j : ℕ) → share b at p r j ≡ 0
+        none j =
+            ⊎-elim (λ e. absurd (h j (senior-chain (roleCount b) (tableOf b hierarchy) small (accepted b ok .hierarchy) r j .0 e)))
+            (λ e. rw e) (met-or-not (seniorTo (tableOf b hierarchy) r j))
+
+    -- a weight is at most 40
+    pub weight-le : (r : ℕ) → weight b at r p ≤ 40
+    unfolding weight
+    weight-le r = let o = own-le r in let s = shares-le r (roleCount b) small in omega arith
+
+    -- the weight of a role at R or above is 0
+    pub weight-high : (r : ℕ) → roleCount b ≤ r → weight b at r p ≡ 0
+    unfolding weight own
+    weight-high r h =
+        rw (chosen-high (contextHolds at (tableOf b contexts)) anyType p r h, sum-zero (share b at p r) (roleCount b) (λ j l. share-none r j (λ a c. omega arith)))
+
+-- the pass over A and the juniors' sets give the weights
+pub weigh : (b : List ℕ) (ok : refusalOf b ≡ 0) (at : Context) (s : Fixed) (p : ℕ) (f : ChosenWeights) (w : List ℕ) → FixedBy b at s →
+    AreChosen (s .contexts) (tableOf b policies) (recordCount policies (tableOf b policies)) p f → Summed f (s .juniors) w → AreWeights b at p w
+unfolding weight own inh contextHolds
+weigh b ok at s p f w fixed first sum =
+    record { role = λ r l. sum .role r l ∙ ap₂ (λ (x y : ℕ). x + y) (first .own r l ∙ same anyType r) (shares r l) }
+  where
+    agrees : (i : ℕ) → i < recordCount policies (tableOf b policies) →
+        inForceBy (s .contexts) (policyContext (tableOf b policies) i) ≡ contextHolds at (tableOf b contexts) (policyContext (tableOf b policies) i)
+    agrees i l =
+        ⊎-elim
+        (λ k. rw (ne-eqb (policyContext (tableOf b policies) i) 255 (λ q. omega arith)) (rw (ne-eqb (policyContext (tableOf b policies) i) 255 (λ q. omega arith)) at (fixed .holding .number (policyContext (tableOf b policies) i) k)))
+        (λ e. rw e) (policy-fine 8 256 (tableOf b policies) i (policies-fine b ok) l .context)
+
+    same : (o : ℕ → Bool) (r : ℕ) → chosenWeight (inForceBy (s .contexts)) o (tableOf b policies) (recordCount policies (tableOf b policies)) r p
+        ≡ chosenWeight (contextHolds at (tableOf b contexts)) o (tableOf b policies) (recordCount policies (tableOf b policies)) r p
+    same o r = chosen-same (inForceBy (s .contexts)) (contextHolds at (tableOf b contexts)) o (tableOf b policies) r p _ agrees
+
+    shares : (r : ℕ) → r < 8 → handedOn (f .inh) (getD (s .juniors) r 0) ≡ sumBelow (roleCount b) (share b at p r)
+    shares r l =
+        sum-same (λ j. cond (inSet (getD (s .juniors) r 0) j) (getD (f .inh) j 0) 0) (share b at p r) 8
+        (λ j m. rw (fixed .juniors .role r j l, first .inh j m ∙ same typeOne j))
+        ∙ sum-tail (share b at p r) (roleCount b) 8 (small b ok) (λ j m n. share-none b ok at p r j (λ x y. omega arith))
+
+-- the law of seniority at the bytes: bit j of role r's byte exactly when a chain of H records leads from r to j
+pub junior-bit : (b : List ℕ) (ok : refusalOf b ≡ 0) (at : Context) (s : Fixed) → FixedBy b at s → (r j : ℕ) → r < 8 →
+    (inSet (getD (s .juniors) r 0) j ≡ true) ↔ Chain (tableOf b hierarchy) r j
+junior-bit b ok at s fixed r j l =
+    rw (fixed .juniors .role r j l) (senior-chain (roleCount b) (tableOf b hierarchy) (small b ok) (accepted b ok .hierarchy) r j)
+
+-- the weights handed on are at most 40
+pub weights-le : (b : List ℕ) → refusalOf b ≡ 0 → (at : Context) (p : ℕ) (w : List ℕ) → AreWeights b at p w → (r : ℕ) → r < 8 → getD w r 0 ≤ 40
+weights-le b ok at p w are r l = rw (are .role r l) (weight-le b ok at p r)

@@ -1,0 +1,16 @@
+-- Operators, shared by the conditions of contexts and groups.
+use Prim.Native.Nat.{ℕ}
+use mathlib.Core.Bool.{Bool, false, not, cond}
+use lib.Dec.{ltb, leb, eqb}
+use Rattle.folds.specs.Sets.{contains}
+
+-- x stands to the value v as operator o says: 0 is >, 1 is <, 2 is >=, 3 is <=, 4 is ==, 5 is !=, 6 is "contains"
+unfoldable pub meets : ℕ → ℕ → ℕ → Bool
+meets o x v =
+    cond (eqb o 0) (ltb v x)
+    (cond (eqb o 1) (ltb x v)
+    (cond (eqb o 2) (leb v x)
+    (cond (eqb o 3) (leb x v)
+    (cond (eqb o 4) (eqb x v)
+    (cond (eqb o 5) (not (eqb x v))
+    (cond (eqb o 6) (contains x v) false))))))
