@@ -126,33 +126,33 @@ module _ (b : List ℕ) (ok : refusalOf b ≡ 0) where
         rw (chosen-high (contextHolds at (tableOf b contexts)) anyType p r h, sum-zero (share b at p r) (roleCount b) (λ j l. share-none r j (λ a c. omega arith)))
 
 -- the pass over A and the juniors' sets give the weights
-pub weigh : (b : List ℕ) (ok : refusalOf b ≡ 0) (at : Context) (s : Fixed) (p : ℕ) (f : ChosenWeights) (w : List ℕ) → FixedBy b at s →
-    AreChosen (s .contexts) (tableOf b policies) (recordCount policies (tableOf b policies)) p f → Summed f (s .juniors) w → AreWeights b at p w
+pub weigh : (b : List ℕ) (ok : refusalOf b ≡ 0) (s : Fixed) (p : ℕ) (f : ChosenWeights) (w : List ℕ) → FixedBy b s →
+    AreChosen (s .contexts) (tableOf b policies) (recordCount policies (tableOf b policies)) p f → Summed f (s .juniors) w → AreWeights b (s .at) p w
 unfolding weight own inh contextHolds
-weigh b ok at s p f w fixed first sum =
+weigh b ok s p f w fixed first sum =
     record { role = λ r l. sum .role r l ∙ ap₂ (λ (x y : ℕ). x + y) (first .own r l ∙ same anyType r) (shares r l) }
   where
     agrees : (i : ℕ) → i < recordCount policies (tableOf b policies) →
-        inForceBy (s .contexts) (policyContext (tableOf b policies) i) ≡ contextHolds at (tableOf b contexts) (policyContext (tableOf b policies) i)
+        inForceBy (s .contexts) (policyContext (tableOf b policies) i) ≡ contextHolds (s .at) (tableOf b contexts) (policyContext (tableOf b policies) i)
     agrees i l =
         ⊎-elim
         (λ k. rw (ne-eqb (policyContext (tableOf b policies) i) 255 (λ q. omega arith)) (rw (ne-eqb (policyContext (tableOf b policies) i) 255 (λ q. omega arith)) at (fixed .holding .number (policyContext (tableOf b policies) i) k)))
         (λ e. rw e) (policy-fine 8 256 (tableOf b policies) i (policies-fine b ok) l .context)
 
     same : (o : ℕ → Bool) (r : ℕ) → chosenWeight (inForceBy (s .contexts)) o (tableOf b policies) (recordCount policies (tableOf b policies)) r p
-        ≡ chosenWeight (contextHolds at (tableOf b contexts)) o (tableOf b policies) (recordCount policies (tableOf b policies)) r p
-    same o r = chosen-same (inForceBy (s .contexts)) (contextHolds at (tableOf b contexts)) o (tableOf b policies) r p _ agrees
+        ≡ chosenWeight (contextHolds (s .at) (tableOf b contexts)) o (tableOf b policies) (recordCount policies (tableOf b policies)) r p
+    same o r = chosen-same (inForceBy (s .contexts)) (contextHolds (s .at) (tableOf b contexts)) o (tableOf b policies) r p _ agrees
 
-    shares : (r : ℕ) → r < 8 → handedOn (f .inh) (getD (s .juniors) r 0) ≡ sumBelow (roleCount b) (share b at p r)
+    shares : (r : ℕ) → r < 8 → handedOn (f .inh) (getD (s .juniors) r 0) ≡ sumBelow (roleCount b) (share b (s .at) p r)
     shares r l =
-        sum-same (λ j. cond (inSet (getD (s .juniors) r 0) j) (getD (f .inh) j 0) 0) (share b at p r) 8
+        sum-same (λ j. cond (inSet (getD (s .juniors) r 0) j) (getD (f .inh) j 0) 0) (share b (s .at) p r) 8
         (λ j m. rw (fixed .juniors .role r j l, first .inh j m ∙ same typeOne j))
-        ∙ sum-tail (share b at p r) (roleCount b) 8 (small b ok) (λ j m n. share-none b ok at p r j (λ x y. omega arith))
+        ∙ sum-tail (share b (s .at) p r) (roleCount b) 8 (small b ok) (λ j m n. share-none b ok (s .at) p r j (λ x y. omega arith))
 
 -- the law of seniority at the bytes: bit j of role r's byte exactly when a chain of H records leads from r to j
-pub junior-bit : (b : List ℕ) (ok : refusalOf b ≡ 0) (at : Context) (s : Fixed) → FixedBy b at s → (r j : ℕ) → r < 8 →
+pub junior-bit : (b : List ℕ) (ok : refusalOf b ≡ 0) (s : Fixed) → FixedBy b s → (r j : ℕ) → r < 8 →
     (inSet (getD (s .juniors) r 0) j ≡ true) ↔ Chain (tableOf b hierarchy) r j
-junior-bit b ok at s fixed r j l =
+junior-bit b ok s fixed r j l =
     rw (fixed .juniors .role r j l) (senior-chain (roleCount b) (tableOf b hierarchy) (small b ok) (accepted b ok .hierarchy) r j)
 
 -- the weights handed on are at most 40

@@ -24,9 +24,9 @@ pub record Holding (at : Context) (c : List ℕ) (s : ℕ) : Type 0 where
 pub record Juniors (h bytes : List ℕ) : Type 0 where
   pub role : (s j : ℕ) → s < 8 → inSet (getD bytes s 0) j ≡ seniorTo h s j
 
--- s is what the base b and the context at fix
-pub record FixedBy (b : List ℕ) (at : Context) (s : Fixed) : Type 0 where
-  pub holding : Holding at (tableOf b contexts) (s .contexts)
+-- s is what the base b fixes in the context that s carries
+pub record FixedBy (b : List ℕ) (s : Fixed) : Type 0 where
+  pub holding : Holding (s .at) (tableOf b contexts) (s .contexts)
   pub juniors : Juniors (tableOf b hierarchy) (s .juniors)
 
 -- a context number holds by the set s of those that do, or is 255

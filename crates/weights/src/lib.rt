@@ -1,7 +1,6 @@
 // Contexts, seniority and weights: what a base and a context fix, and each role's weight for a permission.
 ghost use mathlib.Core.Path.{_≡_};
 ghost use Rattle.reader.specs.Rules.{refusalOf};
-ghost use Rattle.weights.specs.declared.Context.{Context};
 ghost use Rattle.weights.specs.Setting.{FixedBy, AreWeights};
 
 pub mod acting;
@@ -19,8 +18,10 @@ pub struct Context {
     pub zone: u32,
 }
 
-// What one base and context fix: the context numbers that hold, as a set, and each role's juniors, a set a role.
+// What one base and context fix, with that context: the context numbers that hold, as a set, and each role's juniors,
+// a set a role.
 pub struct Fixed {
+    pub at: Context,
     pub contexts: u32,
     pub juniors: [u8; 8],
 }
@@ -34,17 +35,21 @@ pub struct ChosenWeights {
 // Inner: the setting of an accepted base.
 pub fn setting(base: &[u8], at: Context) -> Fixed
     requires { ⌜ refusalOf (now base) ≡ 0 ⌝ }
-    ensures { λ s. ⌜ FixedBy (now (base .entry)) at s ⌝ }
+    ensures { λ s. ⌜ (s .at ≡ at) × FixedBy (now (base .entry)) s ⌝ }
 {
     let contexts = contexts::holding(reader::table(base, reader::CONTEXTS), at);
     let juniors = seniority::juniors(reader::table(base, reader::HIERARCHY));
-    Fixed { contexts, juniors }
+    Fixed {
+        at,
+        contexts,
+        juniors,
+    }
 }
 
 // Inner: the weights of all roles for one permission of an accepted base, where s is a setting of that base.
 pub fn role_weights(base: &[u8], s: Fixed, permission: u8) -> [u8; 8]
-    requires { ⌜ refusalOf (now base) ≡ 0 ⌝ }
-    ensures { λ w. ⌜ ((at : Context) → FixedBy (now (base .entry)) at s → AreWeights (now (base .entry)) at permission w) ⌝ }
+    requires { ⌜ (refusalOf (now base) ≡ 0) × FixedBy (now base) s ⌝ }
+    ensures { λ w. ⌜ AreWeights (now (base .entry)) (s .at) permission w ⌝ }
 {
     let contexts = s.contexts;
     let juniors = s.juniors;

@@ -7,13 +7,13 @@ table-requires : tie.Need-table-requires
 table-requires c κs = search needs
 
 chosen-weights-requires : tie.Need-chosen-weights-requires
-chosen-weights-requires c κs = rw (c .table .ensures) (policies-fine _ (c .before .before .before .pre))
+chosen-weights-requires c κs = rw (c .table .ensures) (policies-fine _ (c .before .before .before .pre .0))
 
 summed-requires : tie.Need-summed-requires
-summed-requires c κs = let f = rw (c .before .table .ensures) at (c .chosen-weights .ensures) in (λ r l. rw (f .own r l) (chosen-five _ (c .before .before .before .before .pre) _ _ _ r), λ r l. rw (f .inh r l) (chosen-five _ (c .before .before .before .before .pre) _ _ _ r))
+summed-requires c κs = let f = rw (c .before .table .ensures) at (c .chosen-weights .ensures) in (λ r l. rw (f .own r l) (chosen-five _ (c .before .before .before .before .pre .0) _ _ _ r), λ r l. rw (f .inh r l) (chosen-five _ (c .before .before .before .before .pre .0) _ _ _ r))
 
 returns : tie.Need-returns
-returns c = λ at fixed. weigh _ (c .before .before .before .before .before .pre) at _ _ _ _ fixed (rw (c .before .before .table .ensures) at (c .before .chosen-weights .ensures)) (c .summed .ensures)
+returns c = weigh _ (c .before .before .before .before .before .pre .0) _ _ _ _ (c .before .before .before .before .before .pre .1) (rw (c .before .before .table .ensures) at (c .before .chosen-weights .ensures)) (c .summed .ensures)
 
 pub role-weights-spec : {M : Type 1} → statement M
 role-weights-spec =

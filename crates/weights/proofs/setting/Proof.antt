@@ -1,3 +1,4 @@
+use mathlib.Core.Path.{_≡_, refl, sym, ap, _∙_}
 use Rattle.reader.proofs.Frame.{roles-range}
 use Rattle.reader.proofs.Accepted.{accepted}
 use Rattle.weights.proofs.Chains.{hierarchy-wider}
@@ -18,7 +19,7 @@ juniors-requires : tie.Need-juniors-requires
 juniors-requires c κs = rw (c .table2 .ensures) (hierarchy-wider _ _ (roles-range _ (accepted _ (c .before .before .before .before .pre) .frame) .1) (accepted _ (c .before .before .before .before .pre) .hierarchy))
 
 returns : tie.Need-returns
-returns c = record { holding = rw (← c .before .before .before .table .ensures) (c .before .before .holding .ensures); juniors = rw (← c .before .table2 .ensures) (c .juniors .ensures) }
+returns c = (refl, record { holding = rw (← c .before .before .before .table .ensures) (c .before .before .holding .ensures); juniors = rw (← c .before .table2 .ensures) (c .juniors .ensures) })
 
 pub setting-spec : {M : Type 1} → statement M
 setting-spec =

@@ -1,0 +1,154 @@
+-- The law of granting, and what the decision's steps know of a group.
+use Prim.Native.Nat.{ℕ, _*_, _/_, _%_, _<_, _≤_}
+use mathlib.Core.Bool.{Bool, true, false, not, cond}
+use mathlib.Core.Path.{_≡_, refl, ap}
+use mathlib.Core.Logic.{_↔_}
+use mathlib.Core.List.{List}
+use native.Mathlib.Omega.{arith}
+use native.Mathlib.Nat.{suc-ne-zero, lt-of-lt-of-le, pos-of-ne-zero}
+use borrow.Author.Tests.{ltb-true, ltb-false, eqb-true, eqb-false, eq-eqb, ne-eqb, lt-ltb, le-ltb, not-false}
+use lib.Dec.{ltb, eqb}
+use lib.ListN.{length, getD}
+use Rattle.folds.specs.Below.{countBelow}
+use Rattle.folds.proofs.Bools.{or-left, or-right}
+use Rattle.folds.proofs.Tests.{any-at, any-each, any-same}
+use Rattle.folds.proofs.Numbers.{sum-same, sum-le, count-same}
+use Rattle.folds.specs.Sets.{inSet}
+use Rattle.folds.proofs.Sets.{in-set}
+use Rattle.reader.specs.Tables.{users, clauses, roleCount, permissionCount, tableOf}
+use Rattle.reader.specs.Rules.{refusalOf}
+use Rattle.weights.specs.declared.Context.{Context}
+use Rattle.weights.specs.Contexts.{outOfRange}
+use Rattle.weights.specs.Weights.{weight}
+use Rattle.weights.specs.Setting.{AreWeights}
+use Rattle.weights.specs.Acting.{mayActBy}
+use Rattle.decision.specs.Groups.{entryCount, entryUser, entryRole, sumOf, actedIn, rolesOf, lengthRefused, unknownAt, someUnknown, standsBefore, someTwice, someIneligible, someWeightless, groupRefusal}
+use Rattle.decision.specs.Decision.{eligible, userCount, groupDecision, decisionOf}
+use Rattle.decision.specs.Conditions.{roleNum, permissionHolds}
+use Rattle.decision.specs.Granting.{Granted, GrantedBy}
+
+-- a group that 12 doesn't refuse is short
+pub short-enough : (g : List ℕ) → lengthRefused g ≡ false → length g ≤ 12
+unfolding lengthRefused
+short-enough g h = ltb-false _ _ (or-right (not (eqb (length g % 2) 0)) _ (or-right (eqb (length g) 0) _ h))
+
+-- the users and roles of a group that 13 doesn't refuse are there
+pub user-known : (U R : ℕ) (g : List ℕ) → someUnknown U R g ≡ false → (i : ℕ) → i < entryCount g → entryUser g i < U
+unfolding someUnknown
+user-known U R g h i l = ltb-true _ _ (not-false _ (or-left _ _ (any-at (unknownAt U R g) _ h i l)))
+
+pub role-known : (U R : ℕ) (g : List ℕ) → someUnknown U R g ≡ false → (i : ℕ) → i < entryCount g → entryRole g i < R
+unfolding someUnknown
+role-known U R g h i l =
+    ltb-true _ _ (not-false _ (or-right (not (ltb (entryUser g i) U)) _ (any-at (unknownAt U R g) _ h i l)))
+
+pub role-below : (U R : ℕ) (g : List ℕ) → someUnknown U R g ≡ false → R ≤ 8 → (i : ℕ) → i < entryCount g → entryRole g i < 8
+role-below U R g h small i l = lt-of-lt-of-le (role-known U R g h i l) small
+
+module _ (b : List ℕ) (at : Context) (p : ℕ) (w g : List ℕ) (are : AreWeights b at p w) (low : (i : ℕ) → i < entryCount g → entryRole g i < 8) where
+  -- what the weights handed on say is what the weights say
+  pub weightless-same : someWeightless (λ r. getD w r 0) g ≡ someWeightless (λ r. weight b at r p) g
+  unfolding someWeightless
+  weightless-same = any-same _ _ (entryCount g) (λ i l. ap (λ (x : ℕ). eqb x 0) (are .role (entryRole g i) (low i l)))
+
+  pub sum-weights : sumOf (λ r. getD w r 0) g ≡ sumOf (λ r. weight b at r p) g
+  unfolding sumOf
+  sum-weights = sum-same _ _ (entryCount g) (λ i l. are .role (entryRole g i) (low i l))
+
+module _ (b : List ℕ) (at : Context) (p : ℕ) (g : List ℕ) where
+  -- what the tables and R handed on say is what the base says
+  pub unknown-same : (us : List ℕ) (R : ℕ) → us ≡ tableOf b users → R ≡ roleCount b → someUnknown (length us / 4) R g ≡ someUnknown (userCount b) (roleCount b) g
+  unknown-same us R e f = rw (e, f)
+
+  pub ineligible-same : (us : List ℕ) (R : ℕ) → us ≡ tableOf b users → R ≡ roleCount b → someIneligible (mayActBy R us) g ≡ someIneligible (eligible b at p) g
+  ineligible-same us R e f = rw (e, f)
+
+  pub condition-same : (k : List ℕ) (n sum set : ℕ) → k ≡ tableOf b clauses → n ≡ entryCount g → sum ≡ sumOf (λ r. weight b at r p) g → set ≡ rolesOf g →
+      permissionHolds k p n sum set ≡ permissionHolds (tableOf b clauses) p (entryCount g) (sumOf (λ r. weight b at r p) g) (rolesOf g)
+  condition-same k n sum set e f h i = rw (e, f, h, i)
+
+-- where the chain 12 to 17 gives 0, no test applies and the condition holds
+none-of : (p q r s t c : Bool) →
+    cond {A = ℕ} p 12 (cond q 13 (cond r 14 (cond s 15 (cond t 16 (cond c 0 17))))) ≡ 0 →
+    (p ≡ false) × (q ≡ false) × (r ≡ false) × (s ≡ false) × (t ≡ false) × (c ≡ true)
+none-of true q r s t c h = absurd (suc-ne-zero 11 h)
+none-of false true r s t c h = absurd (suc-ne-zero 12 h)
+none-of false false true s t c h = absurd (suc-ne-zero 13 h)
+none-of false false false true t c h = absurd (suc-ne-zero 14 h)
+none-of false false false false true c h = absurd (suc-ne-zero 15 h)
+none-of false false false false false false h = absurd (suc-ne-zero 16 h)
+none-of false false false false false true h = (refl, refl, refl, refl, refl, refl)
+
+module _ (U R : ℕ) (may : ℕ → ℕ → Bool) (weigh : ℕ → ℕ) (condition : ℕ → ℕ → ℕ → Bool) (g : List ℕ) where
+  granted-of : groupRefusal U R may weigh condition g ≡ 0 → Granted U R may weigh condition g
+  unfolding groupRefusal lengthRefused someTwice standsBefore someIneligible someWeightless
+  granted-of h =
+      let w = none-of (lengthRefused g) (someUnknown U R g) (someTwice g) (someIneligible may g) (someWeightless weigh g) (condition (entryCount g) (sumOf weigh g) (rolesOf g)) h in
+      let s = short-enough g (w .0) in
+      let n : length g ≡ 0 → ⊥ = eqb-false _ _ (or-left _ _ (w .0)) in
+      let e : length g % 2 ≡ 0 = eqb-true _ _ (not-false _ (or-left _ _ (or-right (eqb (length g) 0) _ (w .0)))) in
+      let m = pos-of-ne-zero n in
+      record {
+        whole = omega arith;
+        some = omega arith;
+        few = omega arith;
+        user = user-known U R g (w .1);
+        role = role-known U R g (w .1);
+        different = λ i j l k q. eqb-false _ _ (any-at (λ i. eqb (entryUser g i) (entryUser g j)) j (any-at (standsBefore g) _ (w .2) j k) i l) q;
+        acting = λ i l. not-false _ (any-at (λ i. not (may (entryUser g i) (entryRole g i))) _ (w .3) i l);
+        heavy = λ i l. pos-of-ne-zero (eqb-false _ _ (any-at (λ i. eqb (weigh (entryRole g i)) 0) _ (w .4) i l));
+        holds = w .5;
+      }
+
+  refused-not : Granted U R may weigh condition g → groupRefusal U R may weigh condition g ≡ 0
+  unfolding groupRefusal lengthRefused someUnknown someTwice standsBefore someIneligible someWeightless
+  refused-not d =
+      let a = d .whole in
+      let n = d .some in
+      let m = d .few in
+      rw (
+        ne-eqb (length g) 0 (λ q. omega arith),
+        eq-eqb (length g % 2) 0 (omega arith),
+        le-ltb 12 (length g) (omega arith),
+        any-each (unknownAt U R g) (entryCount g) (λ i l. rw (lt-ltb _ _ (d .user i l), lt-ltb _ _ (d .role i l))),
+        any-each (standsBefore g) (entryCount g) (λ j k. any-each (λ i. eqb (entryUser g i) (entryUser g j)) j (λ i l. ne-eqb _ _ (d .different i j l k))),
+        any-each (λ i. not (may (entryUser g i) (entryRole g i))) (entryCount g) (λ i l. rw (d .acting i l)),
+        any-each (λ i. eqb (weigh (entryRole g i)) 0) (entryCount g) (λ i l. ne-eqb (weigh (entryRole g i)) 0 (λ q. let h = d .heavy i l in omega arith)),
+        d .holds,
+      )
+
+  -- the law of granting, for whatever the chain is handed
+  pub granting : (groupRefusal U R may weigh condition g ≡ 0) ↔ Granted U R may weigh condition g
+  granting = (granted-of, refused-not)
+
+-- the law of granting: with an accepted base, a permission that is there and a context in range, for every list
+pub decision-granting : (b : List ℕ) (at : Context) (p : ℕ) (g : List ℕ) → refusalOf b ≡ 0 → p < permissionCount b → outOfRange at ≡ false →
+    (decisionOf b at p g ≡ 0) ↔ GrantedBy b at p g
+unfolding decisionOf groupDecision
+decision-granting b at p g ok there fit = rw (ok, lt-ltb _ _ there, fit) (granting _ _ _ _ _ g)
+
+-- only an accepted base grants, a permission that is there, in a context in range
+pub decision-head : (b : List ℕ) (at : Context) (p : ℕ) (g : List ℕ) → decisionOf b at p g ≡ 0 →
+    (refusalOf b ≡ 0) × (p < permissionCount b) × (outOfRange at ≡ false)
+unfolding decisionOf
+decision-head b at p g = by (eqb (refusalOf b) 0) (ltb p (permissionCount b)) (outOfRange at) refl refl refl
+  where
+    by : (r s t : Bool) → eqb (refusalOf b) 0 ≡ r → ltb p (permissionCount b) ≡ s → outOfRange at ≡ t →
+        cond (not r) (refusalOf b) (cond (not s) 10 (cond t 11 (groupDecision b at p g))) ≡ 0 → (refusalOf b ≡ 0) × (p < permissionCount b) × (outOfRange at ≡ false)
+    by true true false er es et h = (eqb-true _ _ er, ltb-true _ _ es, et)
+    by true true true er es et h = absurd (suc-ne-zero 10 h)
+    by true false t er es et h = absurd (suc-ne-zero 9 h)
+    by false s t er es et h = absurd (eqb-false _ _ er h)
+
+-- role_num of a group's set is the number of different roles acted in
+pub role-num : (g : List ℕ) → roleNum (rolesOf g) ≡ countBelow 8 (actedIn g)
+unfolding roleNum rolesOf
+role-num g = count-same (inSet (rolesOf g)) (actedIn g) 8 (λ r l. in-set (actedIn g) 8 r l)
+
+-- the sum of a group that 12 doesn't refuse is at most 240
+pub sum-at-most : (weigh : ℕ → ℕ) (g : List ℕ) → ((r : ℕ) → weigh r ≤ 40) → lengthRefused g ≡ false → sumOf weigh g ≤ 240
+unfolding sumOf
+sum-at-most weigh g h e =
+    let s = short-enough g e in
+    let l : sumOf weigh g ≤ entryCount g * 40 = sum-le (λ i. weigh (entryRole g i)) 40 (entryCount g) (λ i k. h (entryRole g i)) in
+    omega arith

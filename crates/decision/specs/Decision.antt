@@ -1,0 +1,35 @@
+-- The decision: the first of refusals 1 to 17 that applies, or 0.
+use Prim.Native.Nat.{ℕ}
+use mathlib.Core.Bool.{Bool, not, cond}
+use mathlib.Core.List.{List}
+use lib.Dec.{ltb, eqb}
+use Rattle.reader.specs.Tables.{users, clauses, roleCount, permissionCount, recordCount, tableOf}
+use Rattle.reader.specs.Rules.{refusalOf}
+use Rattle.weights.specs.declared.Context.{Context}
+use Rattle.weights.specs.Contexts.{outOfRange}
+use Rattle.weights.specs.Weights.{weight}
+use Rattle.weights.specs.Acting.{mayAct}
+use Rattle.decision.specs.Conditions.{permissionHolds}
+use Rattle.decision.specs.Groups.{groupRefusal}
+
+-- user u may stand in a group for permission p in role r, in this context: u may act in r
+abbrev pub eligible : List ℕ → Context → ℕ → ℕ → ℕ → Bool
+eligible b at p u r = mayAct b u r
+
+-- the number of users
+abbrev pub userCount : List ℕ → ℕ
+userCount b = recordCount users (tableOf b users)
+
+-- refusals 12 to 17, with what the base, the context and the permission hand to the group
+unfoldable pub groupDecision : List ℕ → Context → ℕ → List ℕ → ℕ
+unfolding groupRefusal
+groupDecision b at p g =
+    groupRefusal (userCount b) (roleCount b) (eligible b at p) (λ r. weight b at r p) (permissionHolds (tableOf b clauses) p) g
+
+-- the head: 1 to 9 of the base, 10 of the permission, 11 of the context
+unfoldable pub decisionOf : List ℕ → Context → ℕ → List ℕ → ℕ
+decisionOf b at p g =
+    cond (not (eqb (refusalOf b) 0)) (refusalOf b)
+    (cond (not (ltb p (permissionCount b))) 10
+    (cond (outOfRange at) 11
+    (groupDecision b at p g)))

@@ -1,0 +1,4 @@
+pub mod Conditions
+pub mod Groups
+pub mod Decision
+pub mod Granting

@@ -1,0 +1,122 @@
+// A group's entries and its attributes: refusals 12 to 16.
+ghost use mathlib.Core.Path.{_≡_};
+ghost use Prim.Native.Nat.{ℕ, _+_, _*_, _/_, _≤_, _<_};
+ghost use lib.ListN.{length, getD};
+ghost use Rattle.weights.specs.Acting.{mayActBy};
+ghost use Rattle.decision.specs.Groups.{entryCount, entryRole, sumOf, rolesOf, lengthRefused, someUnknown, standsBefore, someTwice, someIneligible, someWeightless};
+
+// Refusal 12.
+pub fn length_refused(g: &[u8]) -> bool
+    ensures { λ r. ⌜ r ≡ lengthRefused (now (g .entry)) ⌝ }
+{
+    if g.len() == 0 {
+        return true;
+    }
+    if g.len() % 2 != 0 {
+        return true;
+    }
+    12 < g.len()
+}
+
+// Refusal 13.
+pub fn some_unknown(g: &[u8], users: usize, roles: u8) -> bool
+    ensures { λ r. ⌜ r ≡ someUnknown users roles (now (g .entry)) ⌝ }
+{
+    for i in 0..g.len() / 2 {
+        if users <= wide(g[2 * i]) {
+            return true;
+        }
+        if roles <= g[2 * i + 1] {
+            return true;
+        }
+    }
+    false
+}
+
+fn wide(x: u8) -> usize
+    ensures { λ r. ⌜ (r ≡ x) × (r < 256) ⌝ }
+{
+    x as usize
+}
+
+fn stands_before(g: &[u8], i: usize) -> bool
+    requires { ⌜ 2 * i < length (now g) ⌝ }
+    ensures { λ r. ⌜ r ≡ standsBefore (now (g .entry)) i ⌝ }
+{
+    for j in 0..i {
+        if g[2 * j] == g[2 * i] {
+            return true;
+        }
+    }
+    false
+}
+
+// Refusal 14.
+pub fn some_twice(g: &[u8]) -> bool
+    ensures { λ r. ⌜ r ≡ someTwice (now (g .entry)) ⌝ }
+{
+    for i in 0..g.len() / 2 {
+        if stands_before(g, i) {
+            return true;
+        }
+    }
+    false
+}
+
+// Refusal 15.
+pub fn some_ineligible(g: &[u8], users: &[u8], roles: u8) -> bool
+    requires { ⌜ roles ≤ 8 ⌝ }
+    ensures { λ r. ⌜ r ≡ someIneligible (mayActBy roles (now (users .entry))) (now (g .entry)) ⌝ }
+{
+    for i in 0..g.len() / 2 {
+        if !weights::acting::may_act(users, roles, wide(g[2 * i]), wide(g[2 * i + 1])) {
+            return true;
+        }
+    }
+    false
+}
+
+// Refusal 16, for roles below 8.
+pub fn some_weightless(g: &[u8], w: [u8; 8]) -> bool
+    requires { ⌜ ((i : ℕ) → i < entryCount (now g) → entryRole (now g) i < 8) ⌝ }
+    ensures { λ r. ⌜ r ≡ someWeightless (λ r. getD w r 0) (now (g .entry)) ⌝ }
+{
+    for i in 0..g.len() / 2 {
+        if w[wide(g[2 * i + 1])] == 0 {
+            return true;
+        }
+    }
+    false
+}
+
+// The number of entries of a group that is not too long.
+pub fn entry_count(g: &[u8]) -> u32
+    requires { ⌜ length (now g) ≤ 12 ⌝ }
+    ensures { λ r. ⌜ r ≡ entryCount (now (g .entry)) ⌝ }
+{
+    (g.len() / 2) as u32
+}
+
+// The sum of the roles' weights.
+pub fn sum_of(g: &[u8], w: [u8; 8]) -> u32
+    requires { ⌜ (length (now g) ≤ 12) × ((i : ℕ) → i < entryCount (now g) → entryRole (now g) i < 8) × ((r : ℕ) → r < 8 → getD w r 0 ≤ 40) ⌝ }
+    ensures { λ r. ⌜ (r ≡ sumOf (λ r. getD w r 0) (now (g .entry))) × (r ≤ 240) ⌝ }
+{
+    let mut sum: u32 = 0;
+    for i in 0..g.len() / 2 {
+        sum = sum + w[wide(g[2 * i + 1])] as u32;
+    }
+    sum
+}
+
+// The set of the roles acted in.
+pub fn roles_of(g: &[u8]) -> u8
+    requires { ⌜ ((i : ℕ) → i < entryCount (now g) → entryRole (now g) i < 8) ⌝ }
+    ensures { λ r. ⌜ r ≡ rolesOf (now (g .entry)) ⌝ }
+{
+    let mut set: u8 = 0;
+    for i in 0..g.len() / 2 {
+        set = set | weights::sets::role_bit(g[2 * i + 1]);
+    }
+    set
+}

@@ -1,0 +1,67 @@
+// The decision: whether a group is granted a permission, by the first refusal of 1 to 17 that applies.
+use weights::Context;
+use weights::Fixed;
+ghost use mathlib.Core.Path.{_≡_};
+ghost use Prim.Native.Nat.{_<_};
+ghost use Rattle.reader.specs.Tables.{permissionCount};
+ghost use Rattle.reader.specs.Rules.{refusalOf};
+ghost use Rattle.weights.specs.Setting.{FixedBy};
+ghost use Rattle.decision.specs.Decision.{groupDecision, decisionOf};
+
+pub mod conditions;
+pub mod groups;
+
+// Entry point: 0 where the group is granted, else the first refusal of 1 to 17 that applies.
+pub fn decide(base: &[u8], permission: u32, at: Context, group: &[u8]) -> u8
+    ensures { λ r. ⌜ r ≡ decisionOf (now (base .entry)) at permission (now (group .entry)) ⌝ }
+{
+    let refused = reader::check(base);
+    if refused != 0 {
+        return refused;
+    }
+    if reader::trailer::permission_count(base) as u32 <= permission {
+        return 10;
+    }
+    if weights::contexts::out_of_range(at) {
+        return 11;
+    }
+    let s = weights::setting(base, at);
+    decide_checked(base, permission as u8, s, group)
+}
+
+// Inner: refusals 12 to 17 for an accepted base, a permission that is there and a setting of that base.
+pub fn decide_checked(base: &[u8], permission: u8, s: Fixed, group: &[u8]) -> u8
+    requires { ⌜ (refusalOf (now base) ≡ 0) × (permission < permissionCount (now base)) × FixedBy (now base) s ⌝ }
+    ensures { λ r. ⌜ r ≡ groupDecision (now (base .entry)) (s .at) permission (now (group .entry)) ⌝ }
+{
+    if groups::length_refused(group) {
+        return 12;
+    }
+    let users = reader::table(base, reader::USERS);
+    let roles = reader::trailer::role_count(base);
+    if groups::some_unknown(group, users.len() / 4, roles) {
+        return 13;
+    }
+    if groups::some_twice(group) {
+        return 14;
+    }
+    if groups::some_ineligible(group, users, roles) {
+        return 15;
+    }
+    let w = weights::role_weights(base, s, permission);
+    if groups::some_weightless(group, w) {
+        return 16;
+    }
+    let k = reader::table(base, reader::CLAUSES);
+    let n = groups::entry_count(group);
+    if conditions::permission_holds(
+        k,
+        permission,
+        n,
+        groups::sum_of(group, w),
+        groups::roles_of(group),
+    ) {
+        return 0;
+    }
+    17
+}
