@@ -146,9 +146,17 @@ unfolding roleNum rolesOf
 role-num g = count-same (inSet (rolesOf g)) (actedIn g) 8 (λ r l. in-set (actedIn g) 8 r l)
 
 -- the sum of a group that 12 doesn't refuse is at most 240
-pub sum-at-most : (weigh : ℕ → ℕ) (g : List ℕ) → ((r : ℕ) → weigh r ≤ 40) → lengthRefused g ≡ false → sumOf weigh g ≤ 240
+pub sum-at-most : (weigh : ℕ → ℕ) (g : List ℕ) → ((i : ℕ) → i < entryCount g → weigh (entryRole g i) ≤ 40) → lengthRefused g ≡ false → sumOf weigh g ≤ 240
 unfolding sumOf
 sum-at-most weigh g h e =
     let s = short-enough g e in
-    let l : sumOf weigh g ≤ entryCount g * 40 = sum-le (λ i. weigh (entryRole g i)) 40 (entryCount g) (λ i k. h (entryRole g i)) in
+    let l : sumOf weigh g ≤ entryCount g * 40 = sum-le (λ i. weigh (entryRole g i)) 40 (entryCount g) h in
     omega arith
+
+-- the law of granting whole: the decider grants exactly these groups, of every list of numbers
+pub granted-by : (b : List ℕ) (at : Context) (p : ℕ) (g : List ℕ) →
+    (decisionOf b at p g ≡ 0) ↔ ((refusalOf b ≡ 0) × (p < permissionCount b) × (outOfRange at ≡ false) × GrantedBy b at p g)
+granted-by b at p g = (
+  λ h. let k = decision-head b at p g h in (k .0, k .1, k .2, decision-granting b at p g (k .0) (k .1) (k .2) .0 h),
+  λ w. decision-granting b at p g (w .0) (w .1) (w .2) .1 (w .3),
+)

@@ -11,7 +11,7 @@ use Rattle.decision.specs.Conditions.{permissionHolds}
 use Rattle.decision.specs.Groups.{entryCount, entryUser, entryRole, sumOf, rolesOf}
 use Rattle.decision.specs.Decision.{eligible, userCount}
 
--- 1 to 6 whole entries of different users that are there, each eligible in its role, each role's weight above 0, and
+-- 1 to 6 whole entries of different users, users and roles that are there, each user eligible in the role, each role's weight above 0, and
 -- the condition holds of number, sum and set
 pub record Granted (U R : ℕ) (may : ℕ → ℕ → Bool) (weigh : ℕ → ℕ) (condition : ℕ → ℕ → ℕ → Bool) (g : List ℕ) : Type 0 where
   pub whole : length g ≡ 2 * entryCount g

@@ -44,11 +44,12 @@ unfoldable pub someUnknown : ℕ → ℕ → List ℕ → Bool
 unfolding anyBelow
 someUnknown U R g = anyBelow (entryCount g) (unknownAt U R g)
 
--- refusal 14: a user stands in two entries; entry i's user also stands before it
+-- entry i's user also stands before it
 unfoldable pub standsBefore : List ℕ → ℕ → Bool
 unfolding anyBelow
 standsBefore g i = anyBelow i (λ j. eqb (entryUser g j) (entryUser g i))
 
+-- refusal 14: a user stands in two entries
 unfoldable pub someTwice : List ℕ → Bool
 unfolding anyBelow
 someTwice g = anyBelow (entryCount g) (standsBefore g)

@@ -5,7 +5,7 @@ ghost use lib.ListN.{length, getD};
 ghost use Rattle.weights.specs.Acting.{mayActBy};
 ghost use Rattle.decision.specs.Groups.{entryCount, entryRole, sumOf, rolesOf, lengthRefused, someUnknown, standsBefore, someTwice, someIneligible, someWeightless};
 
-// Refusal 12.
+// Inner: refusal 12.
 pub fn length_refused(g: &[u8]) -> bool
     ensures { λ r. ⌜ r ≡ lengthRefused (now (g .entry)) ⌝ }
 {
@@ -18,7 +18,7 @@ pub fn length_refused(g: &[u8]) -> bool
     12 < g.len()
 }
 
-// Refusal 13.
+// Inner: refusal 13.
 pub fn some_unknown(g: &[u8], users: usize, roles: u8) -> bool
     ensures { λ r. ⌜ r ≡ someUnknown users roles (now (g .entry)) ⌝ }
 {
@@ -51,7 +51,7 @@ fn stands_before(g: &[u8], i: usize) -> bool
     false
 }
 
-// Refusal 14.
+// Inner: refusal 14.
 pub fn some_twice(g: &[u8]) -> bool
     ensures { λ r. ⌜ r ≡ someTwice (now (g .entry)) ⌝ }
 {
@@ -63,7 +63,7 @@ pub fn some_twice(g: &[u8]) -> bool
     false
 }
 
-// Refusal 15.
+// Inner: refusal 15.
 pub fn some_ineligible(g: &[u8], users: &[u8], roles: u8) -> bool
     requires { ⌜ roles ≤ 8 ⌝ }
     ensures { λ r. ⌜ r ≡ someIneligible (mayActBy roles (now (users .entry))) (now (g .entry)) ⌝ }
@@ -76,10 +76,10 @@ pub fn some_ineligible(g: &[u8], users: &[u8], roles: u8) -> bool
     false
 }
 
-// Refusal 16, for roles below 8.
+// Inner: refusal 16, for roles below 8.
 pub fn some_weightless(g: &[u8], w: [u8; 8]) -> bool
     requires { ⌜ ((i : ℕ) → i < entryCount (now g) → entryRole (now g) i < 8) ⌝ }
-    ensures { λ r. ⌜ r ≡ someWeightless (λ r. getD w r 0) (now (g .entry)) ⌝ }
+    ensures { λ r. ⌜ r ≡ someWeightless (λ k. getD w k 0) (now (g .entry)) ⌝ }
 {
     for i in 0..g.len() / 2 {
         if w[wide(g[2 * i + 1])] == 0 {
@@ -89,7 +89,7 @@ pub fn some_weightless(g: &[u8], w: [u8; 8]) -> bool
     false
 }
 
-// The number of entries of a group that is not too long.
+// Inner: the number of entries of a group that is not too long.
 pub fn entry_count(g: &[u8]) -> u32
     requires { ⌜ length (now g) ≤ 12 ⌝ }
     ensures { λ r. ⌜ r ≡ entryCount (now (g .entry)) ⌝ }
@@ -97,10 +97,10 @@ pub fn entry_count(g: &[u8]) -> u32
     (g.len() / 2) as u32
 }
 
-// The sum of the roles' weights.
+// Inner: the sum of the roles' weights.
 pub fn sum_of(g: &[u8], w: [u8; 8]) -> u32
     requires { ⌜ (length (now g) ≤ 12) × ((i : ℕ) → i < entryCount (now g) → entryRole (now g) i < 8) × ((r : ℕ) → r < 8 → getD w r 0 ≤ 40) ⌝ }
-    ensures { λ r. ⌜ (r ≡ sumOf (λ r. getD w r 0) (now (g .entry))) × (r ≤ 240) ⌝ }
+    ensures { λ r. ⌜ (r ≡ sumOf (λ k. getD w k 0) (now (g .entry))) × (r ≤ 240) ⌝ }
 {
     let mut sum: u32 = 0;
     for i in 0..g.len() / 2 {
@@ -109,7 +109,7 @@ pub fn sum_of(g: &[u8], w: [u8; 8]) -> u32
     sum
 }
 
-// The set of the roles acted in.
+// Inner: the set of the roles acted in.
 pub fn roles_of(g: &[u8]) -> u8
     requires { ⌜ ((i : ℕ) → i < entryCount (now g) → entryRole (now g) i < 8) ⌝ }
     ensures { λ r. ⌜ r ≡ rolesOf (now (g .entry)) ⌝ }
