@@ -1,7 +1,11 @@
 // The C interface: one function for each call that answers with a number. A slice passes as a pointer and a length.
+use reader::Answer;
 use weights::Context;
 ghost use mathlib.Core.Path.{_≡_};
+ghost use lib.ListN.{length};
 ghost use Rattle.reader.specs.Rules.{refusalOf};
+ghost use Rattle.conflicts.specs.Conflicts.{answerOf, bytesOf};
+ghost use Rattle.exports.specs.Packed.{packed};
 ghost use Rattle.decision.specs.Decision.{decisionOf};
 
 // The base check: 0 or the first of refusals 1 to 9 that applies.
@@ -26,4 +30,19 @@ pub extern "C" fn release_decide(
 {
     let at = Context { minute, day, zone };
     decision::decide(base, permission, at, group) as u32
+}
+
+// The conflict list: writes its records into out; the refusal plus 256 times the number of records.
+#[no_mangle]
+pub extern "C" fn release_conflicts(base: &[u8], out: &mut [u8]) -> u64
+    ensures { λ r. ⌜ (r ≡ packed (answerOf (now (base .entry)) (length (now (out .entry))))) × (now (out .exit) ≡ bytesOf (now (base .entry)) (now (out .entry))) ⌝ }
+{
+    pack(conflicts::list(base, out))
+}
+
+// An answer as one number.
+fn pack(answer: Answer) -> u64
+    ensures { λ r. ⌜ r ≡ packed answer ⌝ }
+{
+    answer.refusal as u64 + 256 * (answer.count as u64)
 }

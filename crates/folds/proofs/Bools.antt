@@ -14,6 +14,13 @@ pub and-right : (a b : Bool) → (a && b) ≡ true → b ≡ true
 and-right true b h = h
 and-right false b h = absurd (false≢true h)
 
+pub and-both : {a b : Bool} → a ≡ true → b ≡ true → (a && b) ≡ true
+and-both {a} {b} h k = rw (h, k)
+
+pub and-either : (a b : Bool) → (a && b) ≡ false → (a ≡ false) ⊎ (b ≡ false)
+and-either true b h = inr h
+and-either false b h = inl refl
+
 pub or-left : (a b : Bool) → (a || b) ≡ false → a ≡ false
 or-left true b h = h
 or-left false b h = refl

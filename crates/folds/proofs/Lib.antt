@@ -2,3 +2,4 @@ pub mod Bools
 pub mod Tests
 pub mod Numbers
 pub mod Sets
+pub mod Lists

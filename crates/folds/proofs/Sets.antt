@@ -5,15 +5,16 @@ use mathlib.Core.Path.{_≡_, refl, sym, ap, ap₂, _∙_}
 use native.Mathlib.Numerals.{add-one, one-add}
 use native.Mathlib.Nat.{add-comm, one-mul, zero-mul, div-eq-of-lt, div-div-eq-div-mul, mod-one, mod-eq-of-lt, pow-succ', le-refl, lt-of-lt-of-le, lt-of-le-of-lt, lt-of-not-le, not-suc-le-zero}
 use native.Mathlib.Omega.{arith}
-use lib.Dec.{eqb, eqb·suc-suc, eqb·zero-suc, eqb·suc-zero, lit<}
-use lib.Pow.{pow-mono, shl-exact, mod-pow-add}
-use lib.Bits.{bitOr, bitAnd, or-shr, or-mod, or-shifted-r, or-add-and, and-shr, and-mod, and-le-r}
+use lib.Dec.{ltb, eqb, eqb·suc-suc, eqb·zero-suc, eqb·suc-zero, lit<}
+use lib.Pow.{pow-pos, pow-mono, shl-exact, mod-pow-add}
+use lib.Bits.{bitOr, bitAnd, or-shr, or-mod, or-shifted-r, or-add-and, and-shr, and-mod, and-le-r, and-lt}
 use lib.Count.{ones, onesIn, ones-cat}
-use borrow.Author.Tests.{eqb-true, eq-eqb, ne-eqb}
-use Rattle.folds.specs.Below.{countBelow}
+use borrow.Author.Tests.{eqb-true, eqb-false, eq-eqb, ne-eqb, ltb-true, ltb-false}
+use mathlib.Core.Logic.{⊎-elim}
+use Rattle.folds.specs.Below.{countBelow, anyBelow}
 use Rattle.folds.specs.Sets.{inSet, setBelow, contains}
-use Rattle.folds.proofs.Bools.{and-left, same-test, clash, eqb-sym}
-use Rattle.folds.proofs.Tests.{split, all-at, all-each}
+use Rattle.folds.proofs.Bools.{and-left, same-test, clash, eqb-sym, met-or-not}
+use Rattle.folds.proofs.Tests.{split, all-at, all-each, any-at, any-each}
 use Rattle.folds.proofs.Numbers.{sum-none, sum-more, sum-same, count-none, count-more}
 
 -- a set below 2 ^ n has nothing at n or above
@@ -195,3 +196,22 @@ or-assoc a b c =
 -- a set with one number more
 pub in-added : (s k r : ℕ) → inSet (bitOr s (2 ^ k)) r ≡ (inSet s r || eqb k r)
 in-added s k r = in-or s (2 ^ k) r ∙ ap (λ (b : Bool). inSet s r || b) (in-one k r ∙ eqb-sym r k)
+
+-- what is in the set of those below n of which p holds
+pub in-below : (p : ℕ → Bool) (n r : ℕ) → inSet (setBelow n p) r ≡ (ltb r n && p r)
+in-below p n r =
+    ⊎-elim (λ e. rw e (in-set p n r (ltb-true r n e))) (λ e. rw e (in-set-high n (setBelow n p) r (set-lt p n) (ltb-false r n e)))
+    (met-or-not (ltb r n))
+
+-- two sets of numbers below n have a common member exactly where their meet isn't empty
+pub meet-some : (n a b : ℕ) → a < 2 ^ n → b < 2 ^ n → not (eqb (bitAnd a b) 0) ≡ anyBelow n (λ r. inSet a r && inSet b r)
+meet-some n a b ha hb =
+    ⊎-elim
+    (λ e. rw e (sym (any-each (λ r. inSet a r && inSet b r) n (λ r l. sym (in-and a b r) ∙ ap (λ (x : ℕ). inSet x r) (eqb-true (bitAnd a b) 0 e) ∙ in-none r))))
+    (λ e. rw e (by (anyBelow n (λ r. inSet a r && inSet b r)) refl (eqb-false (bitAnd a b) 0 e)))
+    (met-or-not (eqb (bitAnd a b) 0))
+  where
+    by : (t : Bool) → anyBelow n (λ r. inSet a r && inSet b r) ≡ t → (bitAnd a b ≡ 0 → ⊥) → true ≡ t
+    by true e d = refl
+    by false e d =
+        absurd (d (same-set n (bitAnd a b) 0 (and-lt n a b ha hb) (pow-pos n) (λ r l. in-and a b r ∙ any-at (λ r. inSet a r && inSet b r) n e r l ∙ sym (in-none r))))

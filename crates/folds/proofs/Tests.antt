@@ -1,13 +1,13 @@
 -- Laws of the tests below n: all, any, first.
 use Prim.Native.Nat.{ℕ, zero, suc, _+_, _<_, _≤_}
-use mathlib.Core.Bool.{Bool, true, false, and-false, or-true, cond, _||_}
+use mathlib.Core.Bool.{Bool, true, false, and-false, or-true, cond, _||_, or-false}
 use mathlib.Core.Path.{_≡_, refl}
 use mathlib.Core.Logic.{_⊎_, ⊎-elim}
 use native.Mathlib.Numerals.{add-one}
 use native.Mathlib.Nat.{eq-or-lt-of-le, le-of-suc-le-suc, not-suc-le-zero, lt-irrefl}
 use native.Mathlib.Omega.{arith}
 use Rattle.folds.specs.Below.{allBelow, anyBelow, firstBelow}
-use Rattle.folds.proofs.Bools.{and-left, and-right, or-left, or-right, or-either, clash}
+use Rattle.folds.proofs.Bools.{and-left, and-right, or-left, or-right, or-either, clash, and-either}
 
 -- a number below n + 1 is n or below n
 pub split : {A : Type 0} {i n : ℕ} → i < suc n → (i ≡ n → A) → (i < n → A) → A
@@ -39,6 +39,14 @@ module _ (p : ℕ → Bool) where
   all-each zero h = refl
   all-each (suc n) h = rw (all-each n (λ i l. h i (omega arith)), h n (omega arith))
 
+  -- where p doesn't hold of all numbers below n, one can be named
+  pub all-fails : (n : ℕ) → allBelow n p ≡ false → (i : ℕ) × (i < n) × (p i ≡ false)
+  unfolding allBelow
+  all-fails zero h = clash true refl h
+  all-fails (suc n) h =
+      ⊎-elim (λ l. let w = all-fails n l in (w .0, (let k = w .1 in omega arith), w .2)) (λ e. (n, omega arith, e))
+      (and-either (allBelow n p) (p n) h)
+
   pub any-none : anyBelow 0 p ≡ false
   unfolding anyBelow
   any-none = refl
@@ -67,6 +75,15 @@ module _ (p : ℕ → Bool) where
   unfolding anyBelow
   any-each zero h = refl
   any-each (suc n) h = rw (any-each n (λ i l. h i (omega arith)), h n (omega arith))
+
+  -- what is false from m on makes no difference
+  pub any-tail : (m n : ℕ) → m ≤ n → ((i : ℕ) → m ≤ i → i < n → p i ≡ false) → anyBelow n p ≡ anyBelow m p
+  unfolding anyBelow
+  any-tail m zero h z = let e : m ≡ 0 = omega arith in rw e
+  any-tail m (suc n) h z =
+      ⊎-elim (λ q. rw q)
+      (λ l. rw (z n (le-of-suc-le-suc l) (omega arith), or-false) (any-tail m n (le-of-suc-le-suc l) (λ i k j. z i k (omega arith))))
+      (eq-or-lt-of-le h)
 
   -- where p holds of some number below n, one can be named
   pub any-some : (n : ℕ) → anyBelow n p ≡ true → (i : ℕ) × (i < n) × (p i ≡ true)

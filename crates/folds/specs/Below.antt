@@ -1,5 +1,6 @@
 -- Folds over the numbers below n. Each table loop of the library is one of these.
 use Prim.Native.Nat.{ℕ, zero, suc, _+_, _*_}
+use mathlib.Core.List.{List, [], _++_}
 use mathlib.Core.Bool.{Bool, true, false, _&&_, _||_, cond}
 
 -- p holds of each number below n
@@ -32,3 +33,8 @@ productBelow (suc n) f = productBelow n f * f n
 unfoldable pub countBelow : ℕ → (ℕ → Bool) → ℕ
 unfolding sumBelow
 countBelow n p = sumBelow n (λ i. cond (p i) 1 0)
+
+-- f 0, .. , f (n - 1) one behind the other
+unfoldable pub joinBelow : ℕ → (ℕ → List ℕ) → List ℕ
+joinBelow zero f = []
+joinBelow (suc n) f = joinBelow n f ++ f n

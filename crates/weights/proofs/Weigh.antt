@@ -31,10 +31,10 @@ use Rattle.weights.proofs.Chains.{senior-down, senior-chain}
 use Rattle.weights.proofs.Choice.{chosen-same, chosen-le, chosen-zero}
 
 -- a table A that passed the check passes it with more roles and permissions
-pub policies-wider : (R P : ℕ) (a : List ℕ) → R ≤ 8 → P ≤ 256 → policiesBad R P a ≡ false → policiesBad 8 256 a ≡ false
+pub policies-wider : (R P S Q : ℕ) (a : List ℕ) → R ≤ S → P ≤ Q → policiesBad R P a ≡ false → policiesBad S Q a ≡ false
 unfolding policiesBad policyBad
-policies-wider R P a r p fine =
-    any-each (policyBad 8 256 a) (recordCount policies a)
+policies-wider R P S Q a r p fine =
+    any-each (policyBad S Q a) (recordCount policies a)
     (λ i m. let f = policy-fine R P a i fine m in
     rw (lt-ltb _ _ (lt-of-lt-of-le (f .role) r), lt-ltb _ _ (lt-of-lt-of-le (f .permission) p))
     (or-right (not (ltb (policyPermission a i) P)) _ (or-right (not (ltb (policyRole a i) R)) _ (any-at (policyBad R P a) _ fine i m))))
@@ -45,7 +45,7 @@ module _ (b : List ℕ) (ok : refusalOf b ≡ 0) where
 
   pub policies-fine : policiesBad 8 256 (tableOf b policies) ≡ false
   policies-fine =
-      policies-wider _ _ (tableOf b policies) small (let h = permissions-le b (accepted b ok .frame) in omega arith) (accepted b ok .policies)
+      policies-wider _ _ 8 256 (tableOf b policies) small (let h = permissions-le b (accepted b ok .frame) in omega arith) (accepted b ok .policies)
 
   -- no policy that counts weighs more than 5
   pub chosen-five : (inForce f : ℕ → Bool) (p r : ℕ) → chosenWeight inForce f (tableOf b policies) (recordCount policies (tableOf b policies)) r p ≤ 5

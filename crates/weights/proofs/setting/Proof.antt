@@ -1,4 +1,4 @@
-use mathlib.Core.Path.{_≡_, refl, sym, ap, _∙_}
+use mathlib.Core.Path.{refl}
 use Rattle.reader.proofs.Frame.{roles-range}
 use Rattle.reader.proofs.Accepted.{accepted}
 use Rattle.weights.proofs.Chains.{hierarchy-wider}

@@ -1,8 +1,8 @@
-use Prim.Native.Nat.{ℕ, _≤_, _<_, _-_, _+_, _*_, _/_, _^_}
-use mathlib.Core.Path.{_≡_, refl, sym, ap, _∙_}
+use Prim.Native.Nat.{_≤_, _-_}
+use mathlib.Core.Path.{_≡_, sym, _∙_}
 use mathlib.Core.Logic.{⊎-elim}
-use Rattle.folds.proofs.Sets.{set-none, set-more, set-or, set-lt, in-set, in-set-below, in-set-high, in-none, in-one, in-or, in-and, same-set, contains-and, one-shifted}
-use Rattle.folds.specs.Sets.{inSet, setBelow, contains}
+use Rattle.folds.proofs.Sets.{set-none, set-or}
+use Rattle.folds.specs.Sets.{setBelow}
 use lib.Bits.{or-zero-r}
 use Rattle.weights.specs.Acting.{mayActBy}
 use native.Mathlib.Omega.{arith}

@@ -1,9 +1,9 @@
-use Prim.Native.Nat.{ℕ, _≤_, _<_, _-_, _+_, _*_, _/_, _^_}
-use mathlib.Core.Path.{_≡_, refl, sym, ap, _∙_}
-use mathlib.Core.Bool.{true, false, not, _&&_, _||_, or-true}
-use borrow.Author.Tests.{ne-eqb, eq-eqb, lt-ltb, le-ltb, not-true, not-false, eqb-true}
-use Rattle.folds.specs.Below.{allBelow, anyBelow, sumBelow}
-use Rattle.folds.proofs.Tests.{all-none, all-more, all-stop, all-at, any-none, any-more, any-found, any-at}
+use Prim.Native.Nat.{_≤_, _-_, _+_, _*_}
+use mathlib.Core.Path.{_≡_, sym, _∙_}
+use mathlib.Core.Bool.{true}
+use borrow.Author.Tests.{not-true, not-false}
+use Rattle.folds.specs.Below.{allBelow}
+use Rattle.folds.proofs.Tests.{all-none, all-more, all-stop}
 use Rattle.reader.specs.Fields.{contextLength}
 use Rattle.weights.specs.Contexts.{contextConditionHolds, contextClauseHolds}
 use native.Mathlib.Omega.{arith}

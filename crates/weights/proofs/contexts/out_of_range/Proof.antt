@@ -1,5 +1,5 @@
-use borrow.Author.Tests.{ne-eqb, eq-eqb, lt-ltb, le-ltb, not-true, not-false, eqb-true}
-use Rattle.folds.proofs.Bools.{not-ltb, same-test, clash, and-left, and-right, met-or-not}
+use borrow.Author.Tests.{lt-ltb, le-ltb}
+use Rattle.folds.proofs.Bools.{not-ltb}
 use Rattle.weights.specs.Contexts.{outOfRange}
 use Rattle.weights.proofs.contexts.out_of_range.Statement.{statement}
 use Rattle.weights.proofs.contexts.out_of_range.Tie as tie

@@ -1,4 +1,4 @@
-use borrow.Author.Tests.{ne-eqb, eq-eqb, lt-ltb, le-ltb, not-true, not-false, eqb-true}
+use borrow.Author.Tests.{ne-eqb}
 use Rattle.weights.specs.Contexts.{valueOf}
 use Rattle.weights.proofs.contexts.value_of.Statement.{statement}
 use Rattle.weights.proofs.contexts.value_of.Tie as tie

@@ -1,10 +1,10 @@
-use Prim.Native.Nat.{ℕ, _≤_, _<_, _-_, _+_, _*_, _/_, _^_}
-use mathlib.Core.Path.{_≡_, refl, sym, ap, _∙_}
+use Prim.Native.Nat.{ℕ, _≤_, _-_, _*_}
+use mathlib.Core.Path.{_≡_, sym, _∙_}
 use mathlib.Core.Logic.{⊎-elim}
-use lib.ListN.{length, getD}
-use Rattle.folds.specs.Sets.{inSet, setBelow, contains}
-use Rattle.folds.specs.Below.{allBelow, anyBelow, sumBelow}
-use Rattle.folds.proofs.Numbers.{sum-none, sum-more, sum-le}
+use lib.ListN.{getD}
+use Rattle.folds.specs.Sets.{inSet}
+use Rattle.folds.specs.Below.{sumBelow}
+use Rattle.folds.proofs.Numbers.{sum-none, sum-more}
 use mathlib.Core.Bool.{cond}
 use native.Mathlib.Nat.{add-zero}
 use native.Mathlib.Omega.{arith}

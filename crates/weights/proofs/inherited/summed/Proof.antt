@@ -1,8 +1,8 @@
-use Prim.Native.Nat.{ℕ, _≤_, _<_, _-_, _+_, _*_, _/_, _^_}
-use mathlib.Core.Path.{_≡_, refl, sym, ap, _∙_}
+use Prim.Native.Nat.{ℕ, _≤_, _<_, _-_, _+_}
+use mathlib.Core.Path.{_≡_, refl, ap}
 use lib.ListN.{length, getD, length-set}
 use native.Mathlib.Nat.{not-suc-le-zero}
-use Rattle.weights.proofs.Steps.{holding-more, holding-same, kept, kept-old, junior-more, junior-same, juniors-more, stored-more}
+use Rattle.weights.proofs.Steps.{stored-more}
 use Rattle.weights.specs.Setting.{handedOn}
 use native.Mathlib.Omega.{arith}
 use borrow.Author.Needs.{needs}

@@ -1,6 +1,6 @@
-use mathlib.Core.Path.{_≡_, refl, sym, ap, _∙_}
-use borrow.Author.Tests.{ne-eqb, eq-eqb, lt-ltb, le-ltb, not-true, not-false, eqb-true}
-use Rattle.folds.proofs.Sets.{set-none, set-more, set-or, set-lt, in-set, in-set-below, in-set-high, in-none, in-one, in-or, in-and, same-set, contains-and, one-shifted}
+use mathlib.Core.Path.{_≡_}
+use borrow.Author.Tests.{ne-eqb}
+use Rattle.folds.proofs.Sets.{contains-and}
 use Rattle.weights.specs.Operators.{meets}
 use native.Mathlib.Omega.{arith}
 use Rattle.weights.proofs.operators.is_met.Statement.{statement}

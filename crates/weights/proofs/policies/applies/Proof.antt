@@ -1,5 +1,5 @@
-use borrow.Author.Tests.{ne-eqb, eq-eqb, lt-ltb, le-ltb, not-true, not-false, eqb-true}
-use Rattle.reader.proofs.Accepted.{accepted, context-fine, policy-fine, hierarchy-fine, record-within}
+use borrow.Author.Tests.{ne-eqb, eq-eqb}
+use Rattle.reader.proofs.Accepted.{policy-fine}
 use borrow.Author.Needs.{needs}
 use Rattle.weights.proofs.policies.applies.Statement.{statement}
 use Rattle.weights.proofs.policies.applies.Tie as tie

@@ -1,9 +1,9 @@
-use Prim.Native.Nat.{ℕ, _≤_, _<_, _-_, _+_, _*_, _/_, _^_}
-use mathlib.Core.Path.{_≡_, refl, sym, ap, _∙_}
+use Prim.Native.Nat.{ℕ, _≤_, _<_, _-_, _/_}
+use mathlib.Core.Path.{_≡_, sym, _∙_}
 use mathlib.Core.Logic.{⊎-elim}
 use lib.ListN.{length, getD-replicate}
-use Rattle.reader.proofs.Accepted.{accepted, context-fine, policy-fine, hierarchy-fine, record-within}
-use Rattle.weights.proofs.Choice.{chosen-none, chosen-le, chosen-skip, chosen-step}
+use Rattle.reader.proofs.Accepted.{policy-fine}
+use Rattle.weights.proofs.Choice.{chosen-none, chosen-skip, chosen-step}
 use Rattle.reader.specs.Fields.{policyWeight}
 use Rattle.weights.specs.Setting.{AreChosen}
 use native.Mathlib.Omega.{arith}

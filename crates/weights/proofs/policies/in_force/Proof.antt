@@ -1,5 +1,5 @@
 use mathlib.Core.Logic.{⊎-elim}
-use borrow.Author.Tests.{ne-eqb, eq-eqb, lt-ltb, le-ltb, not-true, not-false, eqb-true}
+use borrow.Author.Tests.{ne-eqb}
 use native.Mathlib.Omega.{arith}
 use Rattle.weights.proofs.policies.in_force.Statement.{statement}
 use Rattle.weights.proofs.policies.in_force.Tie as tie

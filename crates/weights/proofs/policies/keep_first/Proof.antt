@@ -1,6 +1,6 @@
-use mathlib.Core.Path.{_≡_, refl, sym, ap, _∙_}
-use lib.ListN.{length, getD}
-use Rattle.weights.proofs.Steps.{holding-more, holding-same, kept, kept-old, junior-more, junior-same, juniors-more, stored-more}
+use mathlib.Core.Path.{_≡_}
+use lib.ListN.{getD}
+use Rattle.weights.proofs.Steps.{kept, kept-old}
 use native.Mathlib.Omega.{arith}
 use borrow.Author.Needs.{needs}
 use Rattle.weights.proofs.policies.keep_first.Statement.{statement}

@@ -1,4 +1,4 @@
-use borrow.Author.Tests.{ne-eqb, eq-eqb, lt-ltb, le-ltb, not-true, not-false, eqb-true}
+use borrow.Author.Tests.{ne-eqb, eq-eqb}
 use borrow.Author.Needs.{needs}
 use Rattle.weights.proofs.policies.noted.Statement.{statement}
 use Rattle.weights.proofs.policies.noted.Tie as tie

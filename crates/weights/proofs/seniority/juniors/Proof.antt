@@ -1,8 +1,8 @@
-use Prim.Native.Nat.{ℕ, _≤_, _<_, _-_, _+_, _*_, _/_, _^_}
-use mathlib.Core.Path.{_≡_, refl, sym, ap, _∙_}
+use Prim.Native.Nat.{ℕ, _≤_, _<_, _-_, _+_}
+use mathlib.Core.Path.{_≡_, refl}
 use lib.ListN.{length, getD, length-set}
-use Rattle.folds.specs.Sets.{inSet, setBelow, contains}
-use Rattle.weights.proofs.Steps.{holding-more, holding-same, kept, kept-old, junior-more, junior-same, juniors-more, stored-more}
+use Rattle.folds.specs.Sets.{inSet}
+use Rattle.weights.proofs.Steps.{juniors-more}
 use Rattle.weights.specs.Seniority.{seniorTo}
 use native.Mathlib.Omega.{arith}
 use borrow.Author.Needs.{needs}

@@ -1,13 +1,13 @@
-use Prim.Native.Nat.{ℕ, _≤_, _<_, _-_, _+_, _*_, _/_, _^_}
-use mathlib.Core.Path.{_≡_, refl, sym, ap, _∙_}
+use Prim.Native.Nat.{ℕ, _≤_, _-_, _/_}
+use mathlib.Core.Path.{_≡_, sym, _∙_}
 use mathlib.Core.Logic.{⊎-elim}
-use lib.ListN.{length, getD}
-use Rattle.folds.specs.Sets.{inSet, setBelow, contains}
-use Rattle.folds.specs.Below.{allBelow, anyBelow, sumBelow}
-use Rattle.folds.proofs.Tests.{all-none, all-more, all-stop, all-at, any-none, any-more, any-found, any-at}
-use Rattle.folds.proofs.Sets.{set-none, set-more, set-or, set-lt, in-set, in-set-below, in-set-high, in-none, in-one, in-or, in-and, same-set, contains-and, one-shifted}
-use Rattle.reader.proofs.Accepted.{accepted, context-fine, policy-fine, hierarchy-fine, record-within}
-use Rattle.weights.proofs.Steps.{holding-more, holding-same, kept, kept-old, junior-more, junior-same, juniors-more, stored-more}
+use lib.ListN.{length}
+use Rattle.folds.specs.Sets.{inSet}
+use Rattle.folds.specs.Below.{anyBelow}
+use Rattle.folds.proofs.Tests.{any-none}
+use Rattle.folds.proofs.Sets.{in-none}
+use Rattle.reader.proofs.Accepted.{hierarchy-fine}
+use Rattle.weights.proofs.Steps.{junior-more, junior-same}
 use Rattle.weights.specs.Setting.{nextJunior}
 use native.Mathlib.Omega.{arith}
 use borrow.Author.Needs.{needs}

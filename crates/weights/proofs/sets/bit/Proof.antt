@@ -1,4 +1,4 @@
-use Rattle.folds.proofs.Sets.{set-none, set-more, set-or, set-lt, in-set, in-set-below, in-set-high, in-none, in-one, in-or, in-and, same-set, contains-and, one-shifted}
+use Rattle.folds.proofs.Sets.{one-shifted}
 use borrow.Author.Needs.{needs}
 use Rattle.weights.proofs.sets.bit.Statement.{statement}
 use Rattle.weights.proofs.sets.bit.Tie as tie

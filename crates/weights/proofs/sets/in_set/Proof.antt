@@ -1,5 +1,5 @@
-use mathlib.Core.Path.{_≡_, refl, sym, ap, _∙_}
-use Rattle.folds.specs.Sets.{inSet, setBelow, contains}
+use mathlib.Core.Path.{refl}
+use Rattle.folds.specs.Sets.{inSet}
 use borrow.Author.Needs.{needs}
 use Rattle.weights.proofs.sets.in_set.Statement.{statement}
 use Rattle.weights.proofs.sets.in_set.Tie as tie

@@ -1,0 +1,119 @@
+-- What was worked out beforehand says the same as the rules: the rows of bits are those of the conflict list.
+use Prim.Native.Nat.{ℕ, _-_, _<_, _≤_}
+use mathlib.Core.Bool.{Bool, true, false, _&&_, not, cond, and-false}
+use mathlib.Core.Path.{_≡_, refl, ap₂, _∙_}
+use mathlib.Core.Logic.{_⊎_, ⊎-elim}
+use mathlib.Core.List.{List}
+use native.Mathlib.Omega.{arith}
+use native.Mathlib.Nat.{lt-of-lt-of-le}
+use borrow.Author.Tests.{eq-eqb, ne-eqb, ltb-true, leb-false, le-leb}
+use lib.Bits.{bitAnd}
+use lib.Dec.{ltb, leb, eqb, lit<}
+use lib.ListN.{getD}
+use Rattle.folds.specs.Sets.{inSet}
+use Rattle.folds.proofs.Bools.{met-or-not}
+use Rattle.folds.proofs.Tests.{any-found, any-same, any-tail}
+use Rattle.folds.proofs.Sets.{meet-some}
+use Rattle.reader.specs.Tables.{hierarchy, users, contexts, policies, exclusions, roleCount, permissionCount, tableOf, recordCount}
+use Rattle.reader.specs.Fields.{policyRole, policyPermission, policyType, policyContext}
+use Rattle.reader.specs.Rules.{refusalOf}
+use Rattle.reader.proofs.Frame.{roles-range, permissions-le}
+use Rattle.reader.proofs.Accepted.{PolicyFine, accepted, policy-fine}
+use Rattle.weights.specs.Seniority.{seniorTo}
+use Rattle.weights.proofs.Chains.{senior-down}
+use Rattle.conflicts.specs.Related.{related}
+use Rattle.conflicts.specs.Conflicts.{contradict, covers, coverBoth, overlap, holdsBoth}
+use Rattle.conflicts.specs.Rows.{slotOf, numberAt, named, Relations, Covers, Excluded, relatedBy, contradictBy, overlapBy, inside, IsRow, inRow, Rows}
+use Rattle.conflicts.proofs.Relating.{related-sym}
+
+-- pairs that lie inside are the only ones that count
+inside-same : (n m : ℕ) (p q : ℕ → ℕ → Bool) → ((i j : ℕ) → i < n → j < m → p i j ≡ q i j) → (i j : ℕ) → inside n m p i j ≡ inside n m q i j
+inside-same n m p q h i j =
+    ⊎-elim
+    (λ e. ⊎-elim (λ f. rw (h i j (ltb-true _ _ e) (ltb-true _ _ f))) (λ f. rw f) (met-or-not (ltb j m)))
+    (λ e. rw e) (met-or-not (ltb i n))
+
+-- the number of a context number's slot is that number
+number-slot : (n : ℕ) → (n ≤ 15) ⊎ (n ≡ 255) → (numberAt (slotOf n) ≡ n) × (slotOf n < 17)
+unfolding numberAt slotOf
+number-slot n h =
+    ⊎-elim (λ l. rw (ne-eqb n 255 (λ q. omega arith)) (rw (ne-eqb n 16 (λ q. omega arith)) refl, omega arith)) (λ e. rw e (refl, lit< tt)) h
+
+module _ (c a rows : List ℕ) (names : ℕ) (rel : Relations c names rows) (named-is : (s : ℕ) → inSet names s ≡ named a s) where
+  -- the slot of a policy's context number is named
+  name-in : (i : ℕ) → i < recordCount policies a → inSet names (slotOf (policyContext a i)) ≡ true
+  unfolding named
+  name-in i l = named-is _ ∙ any-found (λ k. eqb (slotOf (policyContext a k)) (slotOf (policyContext a i))) _ i l (eq-eqb (slotOf (policyContext a i)) (slotOf (policyContext a i)) refl)
+
+  -- the rows of related slots tell whether the contexts of two policies are related
+  related-rows : (i j : ℕ) → i < recordCount policies a → j < recordCount policies a →
+      ((policyContext a i ≤ 15) ⊎ (policyContext a i ≡ 255)) → ((policyContext a j ≤ 15) ⊎ (policyContext a j ≡ 255)) →
+      relatedBy rows (policyContext a i) (policyContext a j) ≡ related c (policyContext a i) (policyContext a j)
+  related-rows i j li lj fi fj =
+      let x = policyContext a i in
+      let y = policyContext a j in
+      let (ex, lx) = number-slot x fi in
+      let (ey, ly) = number-slot y fj in
+      ⊎-elim
+      (λ e. rw e (rel .row (slotOf x) (slotOf y) lx ly ∙ rw (name-in i li, name-in j lj, e, ex, ey)))
+      (λ e. rw e (rel .row (slotOf y) (slotOf x) ly lx ∙ rw (name-in i li, name-in j lj, le-leb (slotOf y) (slotOf x) (let g = leb-false (slotOf x) (slotOf y) e in omega arith), ex, ey) (related-sym c y x)))
+      (met-or-not (leb (slotOf x) (slotOf y)))
+
+module _ (b : List ℕ) (ok : refusalOf b ≡ 0) where
+  small : roleCount b ≤ 8
+  small = roles-range b (accepted b ok .frame) .1
+
+  -- the policies of an accepted base: roles below 8, at most 16 permissions
+  fine : (i : ℕ) → i < recordCount policies (tableOf b policies) → PolicyFine (roleCount b) (permissionCount b) (tableOf b policies) i
+  fine i l = policy-fine _ _ (tableOf b policies) i (accepted b ok .policies) l
+
+  permission-below : (i : ℕ) → i < recordCount policies (tableOf b policies) → policyPermission (tableOf b policies) i < 16
+  permission-below i l = lt-of-lt-of-le (fine i l .permission) (permissions-le b (accepted b ok .frame))
+
+  -- no role at R or above is covered
+  covers-high : (i r : ℕ) → i < recordCount policies (tableOf b policies) → roleCount b ≤ r → covers (tableOf b hierarchy) (tableOf b policies) i r ≡ false
+  unfolding covers
+  covers-high i r l h =
+      let g = fine i l .role in
+      rw (ne-eqb (policyRole (tableOf b policies) i) r (λ q. omega arith), none)
+      (and-false (eqb (policyType (tableOf b policies) i) 1))
+    where
+      none : seniorTo (tableOf b hierarchy) r (policyRole (tableOf b policies) i) ≡ false
+      none =
+          ⊎-elim
+          (λ e. let d = senior-down (roleCount b) (tableOf b hierarchy) small (accepted b ok .hierarchy) r (policyRole (tableOf b policies) i) e in
+          let g = fine i l .role in
+          absurd (omega arith))
+          (λ e. e) (met-or-not (seniorTo (tableOf b hierarchy) r (policyRole (tableOf b policies) i)))
+
+  -- the sets of covered roles meet where some role is covered by both
+  cover-rows : (covered : List ℕ) → Covers (tableOf b hierarchy) (tableOf b policies) covered → (i j : ℕ) →
+      i < recordCount policies (tableOf b policies) → j < recordCount policies (tableOf b policies) →
+      not (eqb (bitAnd (getD covered i 0) (getD covered j 0)) 0) ≡ coverBoth (roleCount b) (tableOf b hierarchy) (tableOf b policies) i j
+  unfolding coverBoth
+  cover-rows covered cov i j li lj =
+      let p : ℕ → Bool = λ r. covers (tableOf b hierarchy) (tableOf b policies) i r && covers (tableOf b hierarchy) (tableOf b policies) j r in
+      meet-some 8 (getD covered i 0) (getD covered j 0) (cov .small i li) (cov .small j lj)
+      ∙ any-same (λ r. inSet (getD covered i 0) r && inSet (getD covered j 0) r) p 8 (λ r m. rw (cov .policy i r li m, cov .policy j r lj m))
+      ∙ any-tail p (roleCount b) 8 small (λ r h m. rw (covers-high i r li h))
+
+  -- the rows are those of the list
+  pub rows-found : (names : ℕ) (rel apart covered rows : List ℕ) →
+      Relations (tableOf b contexts) names rel → ((s : ℕ) → inSet names s ≡ named (tableOf b policies) s) →
+      Covers (tableOf b hierarchy) (tableOf b policies) covered → Excluded (tableOf b exclusions) apart →
+      ((q : ℕ) → q < 152 → IsRow rel apart covered (tableOf b policies) (tableOf b users) (roleCount b) (tableOf b exclusions) q (getD rows q 0)) →
+      Rows b rows
+  unfolding inRow contradict overlap
+  rows-found names rel apart covered rows relations named-is cov apart-is are = record {
+    row = λ q j l. are q l .bit j ∙ ap₂ (λ (x y : Bool). cond (ltb q 64) x (cond (ltb q 128) y (inside (recordCount users (tableOf b users)) (recordCount exclusions (tableOf b exclusions)) (holdsBoth (roleCount b) (tableOf b users) (tableOf b exclusions)) (q - 128) j))) (one q j) (two (q - 64) j);
+  }
+    where
+      one : (i j : ℕ) → inside (recordCount policies (tableOf b policies)) (recordCount policies (tableOf b policies)) (contradictBy rel (tableOf b policies)) i j
+          ≡ inside (recordCount policies (tableOf b policies)) (recordCount policies (tableOf b policies)) (contradict (tableOf b contexts) (tableOf b policies)) i j
+      one = inside-same _ _ (contradictBy rel (tableOf b policies)) (contradict (tableOf b contexts) (tableOf b policies))
+          (λ i j li lj. rw (related-rows (tableOf b contexts) (tableOf b policies) rel names relations named-is i j li lj (fine i li .context) (fine j lj .context)))
+
+      two : (i j : ℕ) → inside (recordCount policies (tableOf b policies)) (recordCount policies (tableOf b policies)) (overlapBy apart covered (tableOf b policies)) i j
+          ≡ inside (recordCount policies (tableOf b policies)) (recordCount policies (tableOf b policies)) (overlap (roleCount b) (tableOf b hierarchy) (tableOf b exclusions) (tableOf b policies)) i j
+      two = inside-same _ _ (overlapBy apart covered (tableOf b policies)) (overlap (roleCount b) (tableOf b hierarchy) (tableOf b exclusions) (tableOf b policies))
+          (λ i j li lj. rw (apart-is .permission _ _ (permission-below i li) (permission-below j lj), cover-rows covered cov i j li lj))

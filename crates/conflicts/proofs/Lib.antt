@@ -1,0 +1,4 @@
+pub mod Tables
+pub mod Relating
+pub mod Lists
+pub mod Found

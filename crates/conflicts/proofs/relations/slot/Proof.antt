@@ -1,0 +1,18 @@
+use mathlib.Core.Logic.{⊎-elim}
+use borrow.Author.Tests.{ne-eqb, eq-eqb}
+use Rattle.conflicts.specs.Rows.{slotOf}
+use native.Mathlib.Omega.{arith}
+use borrow.Author.Needs.{needs}
+use Rattle.conflicts.proofs.relations.slot.Statement.{statement}
+use Rattle.conflicts.proofs.relations.slot.Tie as tie
+
+returns : tie.Need-returns
+unfolding slotOf
+returns c = (rw (eq-eqb _ _ (c .if1 .taken)), search needs)
+
+returns-2 : tie.Need-returns-2
+unfolding slotOf
+returns-2 c = (rw (ne-eqb _ _ (c .if1 .left)), ⊎-elim (λ l. omega arith) (λ e. absurd (c .if1 .left e)) (c .before .pre))
+
+pub slot-spec : {M : Type 1} → statement M
+slot-spec = tie.close (tie.spec returns returns-2)

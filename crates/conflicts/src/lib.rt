@@ -1,0 +1,31 @@
+// The conflict list: every pair of policies, or of a user and an exclusion, that conflicts, and no other.
+use reader::Answer;
+ghost use mathlib.Core.Path.{_≡_};
+ghost use lib.ListN.{length};
+ghost use Rattle.conflicts.specs.Conflicts.{answerOf, bytesOf};
+
+mod covers;
+mod related;
+mod relations;
+mod rows;
+mod writing;
+
+// Entry point: writes the conflict list; refusals 1 to 9, then 18, which carries the number that would be written.
+pub fn list(base: &[u8], out: &mut [u8]) -> Answer
+    ensures { λ r. ⌜ (r ≡ answerOf (now (base .entry)) (length (now (out .entry)))) × (now (out .exit) ≡ bytesOf (now (base .entry)) (now (out .entry))) ⌝ }
+{
+    let refused = reader::check(base);
+    if refused != 0 {
+        return Answer {
+            refusal: refused,
+            count: 0,
+        };
+    }
+    let found = rows::all_rows(base);
+    let count = writing::row_count(found);
+    if out.len() < 3 * (count as usize) {
+        return Answer { refusal: 18, count };
+    }
+    writing::write_rows(out, found);
+    Answer { refusal: 0, count }
+}

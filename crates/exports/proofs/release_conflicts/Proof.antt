@@ -1,0 +1,20 @@
+use mathlib.Core.Path.{ap, _∙_}
+use Rattle.exports.specs.Packed.{packed}
+use borrow.Author.Needs.{needs}
+use Rattle.exports.proofs.release_conflicts.Statement.{statement}
+use Rattle.exports.proofs.release_conflicts.Tie as tie
+
+list-requires : tie.Need-list-requires
+list-requires c κs = search needs
+
+pack-requires : tie.Need-pack-requires
+pack-requires c κs = search needs
+
+same-length : tie.Need-same-length
+same-length c = search needs
+
+returns : tie.Need-returns
+returns c = (c .pack .ensures ∙ ap packed (c .before .before .before .list .ensures .0), c .before .before .before .list .ensures .1)
+
+pub release-conflicts-spec : {M : Type 1} → statement M
+release-conflicts-spec = tie.close (tie.spec list-requires pack-requires same-length returns)

@@ -1,0 +1,58 @@
+-- Laws of lists joined below n.
+use Prim.Native.Nat.{ℕ, zero, suc, _+_, _<_, _≤_}
+use mathlib.Core.Path.{_≡_, refl}
+use mathlib.Core.Logic.{⊎-elim}
+use mathlib.Core.List.{List, [], _++_, append-assoc, append-nil}
+use native.Mathlib.Numerals.{add-one}
+use native.Mathlib.Nat.{add-zero, add-suc, eq-or-lt-of-le, le-of-suc-le-suc}
+use native.Mathlib.Omega.{arith}
+use lib.ListN.{length, getD, set, length-append}
+use lib.Seq.{getD-set-same, getD-set-other}
+use lib.Dec.{eqb}
+use borrow.Author.Tests.{eqb-true, eqb-false}
+use Rattle.folds.proofs.Bools.{met-or-not}
+use Rattle.folds.specs.Below.{joinBelow, sumBelow}
+
+module _ (f : ℕ → List ℕ) where
+  pub join-none : joinBelow 0 f ≡ []
+  unfolding joinBelow
+  join-none = refl
+
+  pub join-more : (n : ℕ) → joinBelow (n + 1) f ≡ joinBelow n f ++ f n
+  unfolding joinBelow
+  join-more n = rw add-one
+
+  -- the lists below m, and then the next n
+  pub join-split : (m n : ℕ) → joinBelow (m + n) f ≡ joinBelow m f ++ joinBelow n (λ i. f (m + i))
+  unfolding joinBelow
+  join-split m zero = rw (add-zero, append-nil)
+  join-split m (suc n) = rw (add-suc, join-split m n) (append-assoc (joinBelow m f) (joinBelow n (λ i. f (m + i))) (f (m + n)))
+
+  -- empty lists from m on add nothing
+  pub join-tail : (m n : ℕ) → m ≤ n → ((i : ℕ) → m ≤ i → i < n → f i ≡ []) → joinBelow n f ≡ joinBelow m f
+  unfolding joinBelow
+  join-tail m zero h z = let e : m ≡ 0 = omega arith in rw e
+  join-tail m (suc n) h z =
+      ⊎-elim (λ q. rw q)
+      (λ l. rw (z n (le-of-suc-le-suc l) (omega arith), append-nil) (join-tail m n (le-of-suc-le-suc l) (λ i k j. z i k (omega arith))))
+      (eq-or-lt-of-le h)
+
+  -- the length is the sum of the lengths
+  pub join-length : (n : ℕ) → length (joinBelow n f) ≡ sumBelow n (λ i. length (f i))
+  unfolding joinBelow sumBelow
+  join-length zero = refl
+  join-length (suc n) = rw (length-append, join-length n)
+
+module _ (f g : ℕ → List ℕ) where
+  pub join-same : (n : ℕ) → ((i : ℕ) → i < n → f i ≡ g i) → joinBelow n f ≡ joinBelow n g
+  unfolding joinBelow
+  join-same zero h = refl
+  join-same (suc n) h = rw (join-same n (λ i l. h i (omega arith)), h n (omega arith))
+
+-- a store after i others, each of which has its property
+pub stored : (w : List ℕ) (i v : ℕ) (Q : ℕ → ℕ → Type 0) → i < length w → ((k : ℕ) → k < i → Q k (getD w k 0)) → Q i v →
+    (k : ℕ) → k < i + 1 → Q k (getD (set w i v) k 0)
+stored w i v Q l inv e k m =
+    ⊎-elim (λ t. let s : k ≡ i = eqb-true _ _ t in rw (s, getD-set-same w i v 0 l) e)
+    (λ t. let d : k ≡ i → ⊥ = eqb-false k i t in rw (getD-set-other w i k v 0 d) (inv k (omega arith)))
+    (met-or-not (eqb k i))
