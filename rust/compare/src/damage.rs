@@ -102,6 +102,23 @@ pub fn smear(random: &mut Random, bytes: &mut [u8]) {
     }
 }
 
+/// The bytes with a changed field or two, flipped bits, small numbers or
+/// another length.
+pub fn any_damage(random: &mut Random, image: &Image) -> Vec<u8> {
+    let mut bytes = image.bytes.clone();
+    match random.below(6) {
+        0 | 1 => change_field(random, &mut bytes, &image.fields),
+        2 => {
+            change_field(random, &mut bytes, &image.fields);
+            change_field(random, &mut bytes, &image.fields);
+        }
+        3 => flip_bits(random, &mut bytes),
+        4 => smear(random, &mut bytes),
+        _ => resize(random, &mut bytes),
+    }
+    bytes
+}
+
 /// Repeats a record of one table up to its limit or one above.
 pub fn crowd(random: &mut Random, base: &mut BaseBuilder) {
     let table = random.below(7);

@@ -24,9 +24,61 @@ pub fn lively_base(random: &mut Random, most_users: usize) -> BaseBuilder {
     base
 }
 
+/// A random base with as many records as the limits allow: 2,364 bytes.
+pub fn full_base(random: &mut Random) -> BaseBuilder {
+    let roles = random.between(2, 8);
+    let permissions = LIMITS[2] as u8;
+    let numbers = context_numbers(random);
+    let mut base = BaseBuilder::new(roles);
+    base.hierarchy = times(LIMITS[0], || edge(rising_pair(random, roles)));
+    base.users = times(LIMITS[1], || user(random, roles));
+    base.permissions = times(LIMITS[2], || random_permission(random));
+    base.group_clauses = times(LIMITS[3], || {
+        let permission = random.between(0, permissions - 1);
+        GroupClause::new(permission, &conditions(random, roles))
+    });
+    base.context_clauses = times(LIMITS[4], || {
+        ContextClause::new(random.pick(&numbers), &context_conditions(random))
+    });
+    base.policies = times(LIMITS[5], || {
+        let role = random.between(0, roles - 1);
+        let permission = random.between(0, permissions - 1);
+        policy(random, role, permission, numbers)
+    });
+    base.exclusions = times(LIMITS[6], || random_exclusion(random, roles, permissions));
+    base
+}
+
+/// A random base of eight roles in a chain where sums reach 240, and clauses
+/// that ask for such sums.
+pub fn heavy_base(random: &mut Random) -> BaseBuilder {
+    let lightest = random.between(3, 5);
+    let heavy_role = |random: &mut Random| CODES[random.pick(&[0, 0, 0, 1, 2])];
+    let mut base = BaseBuilder::new(8).with_permissions(1);
+    base.hierarchy = (1..8).map(|junior| edge((junior - 1, junior))).collect();
+    base.users = times(8, || User {
+        parameter: heavy_role(random),
+    });
+    base.group_clauses = vec![GroupClause::new(0, &[heavy_condition(random)])];
+    base.policies = (0..8)
+        .map(|role| Policy::new(role, 0, random.between(lightest, 5), 1, NO_CONTEXT))
+        .collect();
+    base
+}
+
+/// A condition on a sum that heavy groups have, mostly at the highest ones.
+fn heavy_condition(random: &mut Random) -> GroupCondition {
+    let any = random.between(100, 255);
+    let value = random.pick(&[any, 199, 200, 239, 240, 241]);
+    (1, random.between(0, 5), value)
+}
+
+fn edge((senior, junior): (u8, u8)) -> Edge {
+    Edge { senior, junior }
+}
+
 /// No records, a chain, a tree or a lattice of roles, in any order.
 fn hierarchy(random: &mut Random, roles: u8) -> Vec<Edge> {
-    let edge = |(senior, junior)| Edge { senior, junior };
     let mut records: Vec<Edge> = match random.below(6) {
         0 => vec![],
         1 => (1..roles)
@@ -186,6 +238,25 @@ mod tests {
         let answer = model::report_by(reading, base, at, &mut records);
         assert_eq!(answer.refusal, 0);
         records.iter().step_by(13).copied().collect()
+    }
+
+    #[test]
+    fn a_full_base_is_as_long_as_can_be_and_passes() {
+        let mut random = Random::new(25);
+        for _ in 0..200 {
+            let bytes = full_base(&mut random).bytes();
+            assert_eq!(bytes.len(), 2364);
+            assert_eq!(model::check(&bytes), 0);
+        }
+    }
+
+    #[test]
+    fn a_heavy_base_passes() {
+        let mut random = Random::new(26);
+        for _ in 0..200 {
+            let bytes = heavy_base(&mut random).bytes();
+            assert_eq!(model::check(&bytes), 0);
+        }
     }
 
     #[test]

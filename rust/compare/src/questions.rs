@@ -12,6 +12,26 @@ pub struct Asked {
     pub group: Vec<u8>,
 }
 
+impl Asked {
+    /// A question about these entries: user and role acted in.
+    pub fn new(permission: u32, at: Context, entries: &[[u8; 2]]) -> Asked {
+        Asked {
+            permission,
+            at,
+            group: entries.concat(),
+        }
+    }
+}
+
+/// A context of day and zone 0.
+pub fn at_minute(minute: u32) -> Context {
+    Context {
+        minute,
+        day: 0,
+        zone: 0,
+    }
+}
+
 /// A random question. `base` is what `records` give.
 pub fn random_question(random: &mut Random, records: &BaseBuilder, base: &Base) -> Asked {
     let permission = any_permission(random, base.permissions.len());
@@ -129,7 +149,8 @@ fn damaged_group(random: &mut Random, question: &Question) -> Vec<u8> {
     random.shuffle(&mut group);
     let mut bytes = group.concat();
     if random.chance(6) {
-        let length = random.pick(&[0, 1, bytes.len() - 1, 13, 14, 256]);
+        let whole = bytes.len();
+        let length = random.pick(&[0, 1, whole - 1, 13, 14, 256 + whole, 65_536 + whole]);
         bytes.resize(length, 0);
     }
     bytes

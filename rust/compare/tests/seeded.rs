@@ -6,41 +6,24 @@ use compare::damage::*;
 use compare::random::Random;
 use compare::valid::{random_base, Size};
 
-/// How often each answer from 0 to 9 was seen.
-#[derive(Default)]
-struct Tally([usize; 10]);
+/// The tally of a base check: answers 0 to 9.
+type Tally = compare::tally::Tally<10>;
 
-impl Tally {
-    fn compare(&mut self, base: &[u8]) -> u8 {
-        let answer = agreed_check(base);
-        self.0[usize::from(answer)] += 1;
-        answer
-    }
-
-    fn print(&self) {
-        for (answer, seen) in self.0.iter().enumerate() {
-            println!("answer {answer}: {seen} cases");
-        }
-        println!("in all: {} cases", self.total());
-    }
-
-    fn total(&self) -> usize {
-        self.0.iter().sum()
-    }
+fn compare(tally: &mut Tally, base: &[u8]) -> u8 {
+    let answer = agreed_check(base);
+    tally.add(answer);
+    answer
 }
 
 #[test]
 fn seeded_comparison() {
-    let mut tally = Tally::default();
+    let mut tally = Tally::new();
     sound_bases(&mut tally);
     single_fields(&mut tally);
     spoiled_bases(&mut tally);
     loose_bytes(&mut tally);
     tally.print();
-    assert!(tally.total() >= 100_000, "too few cases");
-    for (answer, seen) in tally.0.iter().enumerate() {
-        assert!(*seen > 0, "answer {answer} was never seen");
-    }
+    tally.expect_all_answers(100_000);
 }
 
 fn sound_bases(tally: &mut Tally) {
@@ -48,7 +31,7 @@ fn sound_bases(tally: &mut Tally) {
     for size in [Size::Empty, Size::Small, Size::Any, Size::Full] {
         for _ in 0..2_000 {
             let base = random_base(&mut random, size).bytes();
-            assert_eq!(tally.compare(&base), 0);
+            assert_eq!(compare(tally, &base), 0);
         }
     }
 }
@@ -60,7 +43,7 @@ fn single_fields(tally: &mut Tally) {
     for size in sizes.into_iter().chain(small) {
         let image = random_base(&mut random, size).image();
         field_by_field(&image, |base| {
-            tally.compare(base);
+            compare(tally, base);
         });
     }
 }
@@ -84,7 +67,7 @@ fn spoil_records(random: &mut Random, base: &BaseBuilder, tally: &mut Tally) {
     for spoil in [crowd, empty_clause] {
         let mut base = base.clone();
         spoil(random, &mut base);
-        tally.compare(&base.bytes());
+        compare(tally, &base.bytes());
     }
 }
 
@@ -93,24 +76,24 @@ fn spoil_bytes(random: &mut Random, image: &Image, tally: &mut Tally) {
     let mut base = image.bytes.clone();
     change_field(random, &mut base, &image.fields);
     change_field(random, &mut base, &image.fields);
-    tally.compare(&base);
+    compare(tally, &base);
 
     base.clone_from(&image.bytes);
     flip_bits(random, &mut base);
-    tally.compare(&base);
+    compare(tally, &base);
 
     base.clone_from(&image.bytes);
     smear(random, &mut base);
-    tally.compare(&base);
+    compare(tally, &base);
 
     base.clone_from(&image.bytes);
     resize(random, &mut base);
-    tally.compare(&base);
+    compare(tally, &base);
 }
 
 fn loose_bytes(tally: &mut Tally) {
     let mut random = Random::new(4);
     for _ in 0..10_000 {
-        tally.compare(&random_bytes(&mut random));
+        compare(tally, &random_bytes(&mut random));
     }
 }

@@ -1,0 +1,66 @@
+//! How often each answer was seen.
+
+/// A count for each answer from 0 to `ANSWERS - 1`.
+pub struct Tally<const ANSWERS: usize>([usize; ANSWERS]);
+
+impl<const ANSWERS: usize> Tally<ANSWERS> {
+    pub fn new() -> Tally<ANSWERS> {
+        Tally([0; ANSWERS])
+    }
+
+    pub fn add(&mut self, answer: u8) {
+        self.0[usize::from(answer)] += 1;
+    }
+
+    pub fn print(&self) {
+        for (answer, seen) in self.0.iter().enumerate() {
+            println!("answer {answer}: {seen} cases");
+        }
+        println!("in all: {} cases", self.total());
+    }
+
+    fn total(&self) -> usize {
+        self.0.iter().sum()
+    }
+
+    /// Asserts that there were so many cases, and each answer among them.
+    pub fn expect_all_answers(&self, fewest_cases: usize) {
+        assert!(self.total() >= fewest_cases, "too few cases");
+        for (answer, seen) in self.0.iter().enumerate() {
+            assert!(*seen > 0, "answer {answer} was never seen");
+        }
+    }
+}
+
+impl<const ANSWERS: usize> Default for Tally<ANSWERS> {
+    fn default() -> Tally<ANSWERS> {
+        Tally::new()
+    }
+}
+
+#[cfg(test)]
+mod tests {
+    use super::*;
+
+    #[test]
+    fn every_answer_once_suffices() {
+        let mut tally = Tally::<3>::new();
+        (0..3).for_each(|answer| tally.add(answer));
+        tally.expect_all_answers(3);
+    }
+
+    #[test]
+    #[should_panic(expected = "answer 1 was never seen")]
+    fn an_answer_that_was_never_seen_fails() {
+        let mut tally = Tally::<3>::new();
+        tally.add(0);
+        tally.add(2);
+        tally.expect_all_answers(2);
+    }
+
+    #[test]
+    #[should_panic(expected = "too few cases")]
+    fn too_few_cases_fail() {
+        Tally::<0>::new().expect_all_answers(1);
+    }
+}
