@@ -137,8 +137,9 @@ module _ (c : List ℕ) where
           let (k, l, e) = all-fails (fitsAt c s p w) _ f in
           let q : eqb (contextParameter c s k) p ≡ true = not-false _ (or-left _ _ e) in
           any-found (valueFits c s i j p) _ k l
+          (rw q
           (⊎-elim (λ v. rw (← v, b)) (λ v. rw (← v, b) (or-true (bothFit c i j p (contextValue c s k))))
-          (step _ _ _ (condition-fine s k l .operator-le) (rw q at (all-at (fitsAt c s p (suc w)) _ h k l)) (rw q at e)))
+          (step _ _ _ (condition-fine s k l .operator-le) (rw q at (all-at (fitsAt c s p (suc w)) _ h k l)) (rw q at e))))
 
       -- where a value fits both clauses, a candidate at or below it does
       fit-meetable : (v : ℕ) → bothFit c i j p v ≡ true → meetable c i j p ≡ true
@@ -164,7 +165,7 @@ module _ (c : List ℕ) where
           found v h = any-found _ _ v (fits-both i j p v h .range) h
 
           value : (s : ℕ) → someValueFits c s i j p ≡ true → anyBelow (rangeOf p) (bothFit c i j p) ≡ true
-          value s h = let (k, l, e) = any-some (valueFits c s i j p) _ h in ⊎-elim (found _) (found _) (or-either _ _ e)
+          value s h = let (k, l, e) = any-some (valueFits c s i j p) _ h in ⊎-elim (found _) (found _) (or-either _ _ (and-right (eqb (contextParameter c s k) p) _ e))
 
     -- of compatible clauses a context can be named in which both hold
     compatible-some : (i j : ℕ) → compatible c i j ≡ true → (at : Context) × InRange at × (contextClauseHolds at c i ≡ true) × (contextClauseHolds at c j ≡ true)

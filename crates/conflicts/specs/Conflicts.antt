@@ -14,14 +14,14 @@ use Rattle.weights.specs.Seniority.{seniorTo}
 use Rattle.conflicts.specs.Related.{related}
 
 -- policies i and j have equal role and permission, and different weight or type
-unfoldable pub differ : List ℕ → ℕ → ℕ → Bool
-differ a i j =
+unfoldable pub disagree : List ℕ → ℕ → ℕ → Bool
+disagree a i j =
     (eqb (policyRole a i) (policyRole a j) && eqb (policyPermission a i) (policyPermission a j))
     && (not (eqb (policyWeight a i) (policyWeight a j)) || not (eqb (policyType a i) (policyType a j)))
 
 -- kind 1 (004, rule 1): policies i < j of equal role and permission, related contexts, and different weight or type
 unfoldable pub contradict : List ℕ → List ℕ → ℕ → ℕ → Bool
-contradict c a i j = ltb i j && (differ a i j && related c (policyContext a i) (policyContext a j))
+contradict c a i j = ltb i j && (disagree a i j && related c (policyContext a i) (policyContext a j))
 
 -- policy i covers its role and, if its type is 1, that role's seniors (004, definition 15)
 unfoldable pub covers : List ℕ → List ℕ → ℕ → ℕ → Bool
@@ -69,12 +69,12 @@ unfoldable pub tooShort : List ℕ → ℕ → Bool
 tooShort b n = ltb n (3 * conflictCount b)
 
 -- the answer for a buffer of n bytes: refusals 1 to 9 carry 0, 18 the number that would be written
-unfoldable pub answerOf : List ℕ → ℕ → Answer
-answerOf b n =
+unfoldable pub conflictAnswer : List ℕ → ℕ → Answer
+conflictAnswer b n =
     cond (not (eqb (refusalOf b) 0)) (record { refusal = refusalOf b; count = 0 })
     (cond (tooShort b n) (record { refusal = 18; count = conflictCount b }) (record { refusal = 0; count = conflictCount b }))
 
 -- the buffer afterwards: the list, and the bytes behind it as they were; no refusal writes
-unfoldable pub bytesOf : List ℕ → List ℕ → List ℕ
-bytesOf b out =
+unfoldable pub conflictBytes : List ℕ → List ℕ → List ℕ
+conflictBytes b out =
     cond (not (eqb (refusalOf b) 0) || tooShort b (length out)) out (conflicts b ++ drop (3 * conflictCount b) out)

@@ -15,11 +15,11 @@ use Rattle.weights.specs.Contexts.{contextHolds}
 abbrev pub bothHold : List ℕ → ℕ → ℕ → Context → Bool
 bothHold c x y at = contextHolds at c x && contextHolds at c y
 
--- two context numbers are related if some one context (minute, day, zone) satisfies both. To be believed, not run
+-- two context numbers are related if some one context (minute, day, zone) satisfies both. The definition; the code never runs it
 unfoldable pub related : List ℕ → ℕ → ℕ → Bool
-related c x y = anyBelow 1440 (λ m. anyBelow 7 (λ d. anyBelow 256 (λ z. bothHold c x y (record { minute = m; day = d; zone = z }))))
+related c x y = anyBelow (rangeOf 0) (λ m. anyBelow (rangeOf 1) (λ d. anyBelow (rangeOf 2) (λ z. bothHold c x y (record { minute = m; day = d; zone = z }))))
 
--- The computed test, which the laws in proofs/Related.antt tie to the above.
+-- The computed test, which the laws in proofs/Relating.antt tie to the above.
 
 -- clause i is one of context number n; 255 counts as one clause without conditions, behind the others
 abbrev pub clauseOf : List ℕ → ℕ → ℕ → Bool
@@ -37,9 +37,10 @@ fits c i p v = allBelow (contextLength c i) (fitsAt c i p v)
 unfoldable pub bothFit : List ℕ → ℕ → ℕ → ℕ → ℕ → Bool
 bothFit c i j p v = ltb v (rangeOf p) && (fits c i p v && fits c j p v)
 
--- the value of condition k of clause s, or one more, meets the conditions of clauses i and j
+-- condition k of clause s is on parameter p, and its value, or one more, meets the conditions of clauses i and j
 abbrev pub valueFits : List ℕ → ℕ → ℕ → ℕ → ℕ → ℕ → Bool
-valueFits c s i j p k = bothFit c i j p (contextValue c s k) || bothFit c i j p (contextValue c s k + 1)
+valueFits c s i j p k =
+    eqb (contextParameter c s k) p && (bothFit c i j p (contextValue c s k) || bothFit c i j p (contextValue c s k + 1))
 
 -- some condition's value of clause s, or one more, does
 unfoldable pub someValueFits : List ℕ → ℕ → ℕ → ℕ → ℕ → Bool

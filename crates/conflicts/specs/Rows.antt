@@ -11,7 +11,7 @@ use Rattle.folds.specs.Sets.{inSet}
 use Rattle.reader.specs.Tables.{hierarchy, users, contexts, policies, exclusions, roleCount, tableOf, recordCount}
 use Rattle.reader.specs.Fields.{policyPermission, policyContext}
 use Rattle.conflicts.specs.Related.{related}
-use Rattle.conflicts.specs.Conflicts.{differ, contradict, covers, excluded, overlap, holdsBoth}
+use Rattle.conflicts.specs.Conflicts.{disagree, contradict, covers, excluded, overlap, holdsBoth}
 
 -- a place for each context number: 0 to 15, and 16 for 255
 unfoldable pub slotOf : ℕ → ℕ
@@ -48,7 +48,7 @@ relatedBy rows x y =
 
 -- kind 1 by those rows
 abbrev pub contradictBy : List ℕ → List ℕ → ℕ → ℕ → Bool
-contradictBy rows a i j = ltb i j && (differ a i j && relatedBy rows (policyContext a i) (policyContext a j))
+contradictBy rows a i j = ltb i j && (disagree a i j && relatedBy rows (policyContext a i) (policyContext a j))
 
 -- kind 2 by the sets of excluded permissions and of covered roles
 abbrev pub overlapBy : List ℕ → List ℕ → List ℕ → ℕ → ℕ → Bool
@@ -86,6 +86,6 @@ pub record Rows (b rows : List ℕ) : Type 0 where
 unfoldable pub rowRecords : ℕ → ℕ → ℕ → List ℕ
 rowRecords kind first row = joinBelow 64 (λ j. cond (inSet row j) (kind ∷ first ∷ j ∷ []) [])
 
--- the records of all 152 rows
+-- the records of the first n rows; there are 152
 unfoldable pub rowsRecords : List ℕ → ℕ → List ℕ
 rowsRecords rows n = joinBelow n (λ q. rowRecords (q / 64 + 1) (q % 64) (getD rows q 0))

@@ -2,7 +2,7 @@
 use reader::Answer;
 ghost use mathlib.Core.Path.{_≡_};
 ghost use lib.ListN.{length};
-ghost use Rattle.conflicts.specs.Conflicts.{answerOf, bytesOf};
+ghost use Rattle.conflicts.specs.Conflicts.{conflictAnswer, conflictBytes};
 
 mod covers;
 mod related;
@@ -12,7 +12,7 @@ mod writing;
 
 // Entry point: writes the conflict list; refusals 1 to 9, then 18, which carries the number that would be written.
 pub fn list(base: &[u8], out: &mut [u8]) -> Answer
-    ensures { λ r. ⌜ (r ≡ answerOf (now (base .entry)) (length (now (out .entry)))) × (now (out .exit) ≡ bytesOf (now (base .entry)) (now (out .entry))) ⌝ }
+    ensures { λ r. ⌜ (r ≡ conflictAnswer (now (base .entry)) (length (now (out .entry)))) × (now (out .exit) ≡ conflictBytes (now (base .entry)) (now (out .entry))) ⌝ }
 {
     let refused = reader::check(base);
     if refused != 0 {

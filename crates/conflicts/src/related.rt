@@ -7,7 +7,7 @@ ghost use lib.ListN.{length};
 ghost use Rattle.reader.specs.Tables.{contexts, recordCount};
 ghost use Rattle.reader.specs.Fields.{contextLength};
 ghost use Rattle.reader.specs.Rules.{contextsBad};
-ghost use Rattle.conflicts.specs.Related.{clauseOf, fitsAt, fits, bothFit, someValueFits, meetable, compatible, joins, related};
+ghost use Rattle.conflicts.specs.Related.{clauseOf, fitsAt, fits, bothFit, valueFits, someValueFits, meetable, compatible, joins, related};
 
 // How many values a context's parameter has: minute, day, zone.
 const RANGES: [u32; 3] = [1440, 7, 256];
@@ -83,17 +83,28 @@ fn both_fit(c: &[u8], i: usize, j: usize, p: u8, v: u32) -> bool
     fits_all(c, j, p, v)
 }
 
-// A condition's value of clause s, or one more, meets the conditions of clauses i and j on parameter p.
+// Condition k of clause s is on parameter p, and its value, or one more, meets the conditions of clauses i and j.
+fn value_fits(c: &[u8], s: usize, i: usize, j: usize, p: u8, k: usize) -> bool
+    requires { ⌜ (contextsBad (now c) ≡ false) × (length (now c) ≡ 16 * recordCount contexts (now c)) × (p < 3) × (16 * s + 16 ≤ length (now c)) × (k < 3) ⌝ }
+    ensures { λ r. ⌜ r ≡ valueFits (now (c .entry)) s i j p k ⌝ }
+{
+    if c[16 * s + 4 * k + 2] != p {
+        return false;
+    }
+    let value = wide32(bytes::get16(c, 16 * s + 4 * k + 4));
+    if both_fit(c, i, j, p, value) {
+        return true;
+    }
+    both_fit(c, i, j, p, value + 1)
+}
+
+// Some condition's value of clause s, or one more, does.
 fn some_value_fits(c: &[u8], s: usize, i: usize, j: usize, p: u8) -> bool
     requires { ⌜ (contextsBad (now c) ≡ false) × (length (now c) ≡ 16 * recordCount contexts (now c)) × (p < 3) ⌝ }
     ensures { λ r. ⌜ r ≡ someValueFits (now (c .entry)) s i j p ⌝ }
 {
     for k in 0..length_of(c, s) {
-        let value = wide32(bytes::get16(c, 16 * s + 4 * k + 4));
-        if both_fit(c, i, j, p, value) {
-            return true;
-        }
-        if both_fit(c, i, j, p, value + 1) {
+        if value_fits(c, s, i, j, p, k) {
             return true;
         }
     }

@@ -42,7 +42,7 @@ pub fn names(a: &[u8]) -> u32
     set
 }
 
-// Slots s and t are named, in this order, and their numbers are related.
+// Slots s and t are named, s isn't above t, and their numbers are related.
 fn slots_related(c: &[u8], names: u32, s: u8, t: u8) -> bool
     requires { ⌜ (contextsBad (now c) ≡ false) × (length (now c) ≡ 16 * recordCount contexts (now c)) × (s < 17) × (t < 17) ⌝ }
     ensures { λ r. ⌜ r ≡ relatedSlots (now (c .entry)) names s t ⌝ }

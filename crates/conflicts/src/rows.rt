@@ -9,7 +9,7 @@ ghost use lib.ListN.{length};
 ghost use Rattle.folds.specs.Sets.{inSet};
 ghost use Rattle.reader.specs.Tables.{users, policies};
 ghost use Rattle.reader.specs.Rules.{policiesBad, refusalOf};
-ghost use Rattle.conflicts.specs.Conflicts.{differ, holdsBoth};
+ghost use Rattle.conflicts.specs.Conflicts.{disagree, holdsBoth};
 ghost use Rattle.conflicts.specs.Rows.{inside, relatedBy, contradictBy, overlapBy, IsRow, Rows};
 
 // The set of j alone.
@@ -21,9 +21,9 @@ fn wide_bit(j: usize) -> u64
 }
 
 // Policies i and j have equal role and permission, and different weight or type.
-fn policies_differ(a: &[u8], i: usize, j: usize) -> bool
+fn policies_disagree(a: &[u8], i: usize, j: usize) -> bool
     requires { ⌜ (8 * i + 8 ≤ length (now a)) × (8 * j + 8 ≤ length (now a)) ⌝ }
-    ensures { λ r. ⌜ r ≡ differ (now (a .entry)) i j ⌝ }
+    ensures { λ r. ⌜ r ≡ disagree (now (a .entry)) i j ⌝ }
 {
     if a[8 * i] != a[8 * j] {
         return false;
@@ -58,7 +58,7 @@ fn contradict_by(rows: [u32; 17], a: &[u8], i: usize, j: usize) -> bool
     if j <= i {
         return false;
     }
-    if !policies_differ(a, i, j) {
+    if !policies_disagree(a, i, j) {
         return false;
     }
     related_by(rows, a[8 * i + 4], a[8 * j + 4])

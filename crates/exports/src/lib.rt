@@ -4,7 +4,7 @@ use weights::Context;
 ghost use mathlib.Core.Path.{_≡_};
 ghost use lib.ListN.{length};
 ghost use Rattle.reader.specs.Rules.{refusalOf};
-ghost use Rattle.conflicts.specs.Conflicts.{answerOf, bytesOf};
+ghost use Rattle.conflicts.specs.Conflicts.{conflictAnswer, conflictBytes};
 ghost use Rattle.exports.specs.Packed.{packed};
 ghost use Rattle.decision.specs.Decision.{decisionOf};
 
@@ -32,10 +32,11 @@ pub extern "C" fn release_decide(
     decision::decide(base, permission, at, group) as u32
 }
 
-// The conflict list: writes its records into out; the refusal plus 256 times the number of records.
+// The conflict list: 0, and the list in out, or the first of refusals 1 to 9 and 18; plus 256 times the count, which
+// is the number of records, of 18 the number that would be written, of 1 to 9 zero. base and out don't overlap.
 #[no_mangle]
 pub extern "C" fn release_conflicts(base: &[u8], out: &mut [u8]) -> u64
-    ensures { λ r. ⌜ (r ≡ packed (answerOf (now (base .entry)) (length (now (out .entry))))) × (now (out .exit) ≡ bytesOf (now (base .entry)) (now (out .entry))) ⌝ }
+    ensures { λ r. ⌜ (r ≡ packed (conflictAnswer (now (base .entry)) (length (now (out .entry))))) × (now (out .exit) ≡ conflictBytes (now (base .entry)) (now (out .entry))) ⌝ }
 {
     pack(conflicts::list(base, out))
 }

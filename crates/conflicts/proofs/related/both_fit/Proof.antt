@@ -1,5 +1,5 @@
 use Rattle.reader.specs.Rules.{rangeOf}
-use Prim.Native.Nat.{_≤_}
+use Prim.Native.Nat.{_≤_, _<_}
 use borrow.Author.Tests.{lt-ltb, le-ltb, not-true, not-false}
 use Rattle.conflicts.specs.Related.{bothFit, related}
 use native.Mathlib.Omega.{arith}
@@ -22,14 +22,14 @@ fits-all-requires c κs = (c .before .before .pre .0, c .before .before .pre .1)
 
 returns-2 : tie.Need-returns-2
 unfolding bothFit
-returns-2 c = rw (lt-ltb _ _ (c .before .before .if1 .left), ← c .before .fits-all .ensures, not-true (c .before .fits-all .result) (c .if2 .taken))
+returns-2 c = let h : c .before .before .before .before .args .v < rangeOf (c .before .before .before .before .args .p) = omega arith in rw (lt-ltb _ _ h, ← c .before .fits-all .ensures, not-true (c .before .fits-all .result) (c .if2 .taken))
 
 fits-all-requires-2 : tie.Need-fits-all-requires-2
 fits-all-requires-2 c κs = (c .before .before .before .before .pre .0, c .before .before .before .before .pre .1)
 
 returns-3 : tie.Need-returns-3
 unfolding bothFit
-returns-3 c = rw (lt-ltb _ _ (c .before .before .before .if1 .left), ← c .before .before .fits-all .ensures, not-false (c .before .before .fits-all .result) (c .before .if2 .left)) (c .fits-all2 .ensures)
+returns-3 c = let h : c .before .before .before .before .before .args .v < rangeOf (c .before .before .before .before .before .args .p) = omega arith in rw (lt-ltb _ _ h, ← c .before .before .fits-all .ensures, not-false (c .before .before .fits-all .result) (c .before .if2 .left)) (c .fits-all2 .ensures)
 
 pub both-fit-spec : {M : Type 1} → statement M
 both-fit-spec =

@@ -1,8 +1,8 @@
 use borrow.Author.Tests.{ne-eqb, eq-eqb}
-use Rattle.conflicts.specs.Conflicts.{differ}
+use Rattle.conflicts.specs.Conflicts.{disagree}
 use borrow.Author.Needs.{needs}
-use Rattle.conflicts.proofs.rows.policies_differ.Statement.{statement}
-use Rattle.conflicts.proofs.rows.policies_differ.Tie as tie
+use Rattle.conflicts.proofs.rows.policies_disagree.Statement.{statement}
+use Rattle.conflicts.proofs.rows.policies_disagree.Tie as tie
 
 mul-if1 : tie.Need-mul-if1
 mul-if1 c = search needs
@@ -17,7 +17,7 @@ shared-slice-read-if1-2 : tie.Need-shared-slice-read-if1-2
 shared-slice-read-if1-2 c = search needs
 
 returns : tie.Need-returns
-unfolding differ
+unfolding disagree
 returns c = rw (ne-eqb _ _ (c .if1 .taken))
 
 mul-if2 : tie.Need-mul-if2
@@ -39,7 +39,7 @@ shared-slice-read-if2-2 : tie.Need-shared-slice-read-if2-2
 shared-slice-read-if2-2 c = search needs
 
 returns-2 : tie.Need-returns-2
-unfolding differ
+unfolding disagree
 returns-2 c = rw (eq-eqb _ _ (c .before .before .before .if1 .left), ne-eqb _ _ (c .if2 .taken))
 
 mul-if3 : tie.Need-mul-if3
@@ -61,7 +61,7 @@ shared-slice-read-if3-2 : tie.Need-shared-slice-read-if3-2
 shared-slice-read-if3-2 c = search needs
 
 returns-3 : tie.Need-returns-3
-unfolding differ
+unfolding disagree
 returns-3 c = rw (eq-eqb _ _ (c .before .before .before .before .before .before .if1 .left), eq-eqb _ _ (c .before .before .before .if2 .left), ne-eqb _ _ (c .if3 .taken))
 
 mul-result : tie.Need-mul-result
@@ -83,11 +83,11 @@ shared-slice-read-result-2 : tie.Need-shared-slice-read-result-2
 shared-slice-read-result-2 c = search needs
 
 returns-4 : tie.Need-returns-4
-unfolding differ
+unfolding disagree
 returns-4 c = rw (eq-eqb _ _ (c .before .before .before .before .before .before .before .before .if1 .left), eq-eqb _ _ (c .before .before .before .before .before .if2 .left), eq-eqb _ _ (c .before .before .if3 .left))
 
-pub policies-differ-spec : {M : Type 1} → statement M
-policies-differ-spec =
+pub policies-disagree-spec : {M : Type 1} → statement M
+policies-disagree-spec =
     tie.close
     (tie.spec
     mul-if1
