@@ -88,11 +88,3 @@ juniors-more h known k x l n fine inv new s j at-least below =
   where
     at-least-k : (s ≡ 7 - k → ⊥) → 8 ≤ s + k
     at-least-k d = omega arith
-
--- a store after r others
-pub stored-more : (w : List ℕ) (r v : ℕ) (q : ℕ → ℕ) → r < length w → ((k : ℕ) → k < r → getD w k 0 ≡ q k) → v ≡ q r →
-    (k : ℕ) → k < r + 1 → getD (set w r v) k 0 ≡ q k
-stored-more w r v q l inv e k m =
-    ⊎-elim (λ t. let s : k ≡ r = eqb-true _ _ t in rw (s, getD-set-same w r v 0 l) e)
-    (λ t. let d : k ≡ r → ⊥ = eqb-false k r t in rw (getD-set-other w r k v 0 d) (inv k (omega arith)))
-    (met-or-not (eqb k r))

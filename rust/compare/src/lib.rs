@@ -2,7 +2,9 @@
 
 pub mod builder;
 pub mod cases;
+pub mod clashing;
 pub mod damage;
+pub mod lent;
 pub mod lively;
 pub mod questions;
 pub mod random;
@@ -10,6 +12,7 @@ pub mod shop;
 pub mod tally;
 pub mod valid;
 
+use lent::Lent;
 use questions::Asked;
 
 /// The answer to the base check that the library and the model agree on.
@@ -65,6 +68,49 @@ pub fn expect_decision(base: &[u8], asked: &Asked, answer: u8) {
         "expected {answer}, both gave {agreed}, {}",
         described(base, asked)
     );
+}
+
+/// The answer to a call for the conflict list that the library and the model
+/// agree on. They also agree on each byte that the buffer and its guards hold
+/// afterwards.
+pub fn agreed_conflicts(base: &[u8], lent: &mut Lent) -> model::Answer {
+    let mut models = lent.clone();
+    let by_model = model::conflicts(base, models.buffer());
+    let base_before = base.to_vec();
+    let by_library = release::conflicts(base, lent.buffer());
+    let case = || format!("{} bytes lent, base {}", lent.length(), hex(&base_before));
+    assert!(
+        by_library.refusal == u32::from(by_model.refusal) && by_library.count == by_model.count,
+        "model {by_model:?}, library {by_library:?}, {}",
+        case()
+    );
+    if let Some(place) = lent.first_difference(&models) {
+        panic!(
+            "{by_model:?}, byte {place} of the buffer differs, {}",
+            case()
+        );
+    }
+    assert!(base == base_before, "the base was written, {}", case());
+    by_model
+}
+
+/// Asserts that the library and the model both give this answer and write
+/// these bytes at the buffer's start and no others, whatever it held before.
+pub fn expect_conflicts(base: &[u8], length: usize, answer: (u8, u32), written: &[u8]) {
+    let noise = Lent::noisy(&mut random::Random::new(length as u64), length);
+    for before in [noise.inverted(), noise] {
+        let mut lent = before.clone();
+        let agreed = agreed_conflicts(base, &mut lent);
+        assert!(
+            (agreed.refusal, agreed.count) == answer,
+            "expected {answer:?}, both gave {agreed:?}, {length} bytes lent, base {}",
+            hex(base)
+        );
+        let mut expected = before;
+        expected.buffer()[..written.len()].copy_from_slice(written);
+        let difference = lent.first_difference(&expected);
+        assert!(difference.is_none(), "both wrote byte {difference:?}");
+    }
 }
 
 fn described(base: &[u8], asked: &Asked) -> String {

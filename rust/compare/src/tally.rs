@@ -30,6 +30,20 @@ impl<const ANSWERS: usize> Tally<ANSWERS> {
             assert!(*seen > 0, "answer {answer} was never seen");
         }
     }
+
+    /// Prints how often each of these numbers was seen, and asserts that each
+    /// was, and no other.
+    pub fn expect_exactly(&self, name: &str, numbers: &[u8]) {
+        for number in numbers {
+            println!("{name} {number}: {} times", self.0[usize::from(*number)]);
+        }
+        for (number, seen) in (0..).zip(&self.0) {
+            match numbers.contains(&number) {
+                true => assert!(*seen > 0, "{name} {number} was never seen"),
+                false => assert!(*seen == 0, "{name} {number} was seen"),
+            }
+        }
+    }
 }
 
 impl<const ANSWERS: usize> Default for Tally<ANSWERS> {
@@ -56,6 +70,29 @@ mod tests {
         tally.add(0);
         tally.add(2);
         tally.expect_all_answers(2);
+    }
+
+    #[test]
+    fn some_numbers_and_no_other_suffice() {
+        let mut tally = Tally::<5>::new();
+        [0, 1, 4, 1].into_iter().for_each(|kind| tally.add(kind));
+        tally.expect_exactly("kind", &[0, 1, 4]);
+    }
+
+    #[test]
+    #[should_panic(expected = "kind 4 was never seen")]
+    fn an_expected_number_that_was_never_seen_fails() {
+        let mut tally = Tally::<5>::new();
+        tally.add(0);
+        tally.expect_exactly("kind", &[0, 4]);
+    }
+
+    #[test]
+    #[should_panic(expected = "kind 2 was seen")]
+    fn a_number_beside_the_expected_ones_fails() {
+        let mut tally = Tally::<5>::new();
+        [0, 2].into_iter().for_each(|kind| tally.add(kind));
+        tally.expect_exactly("kind", &[0]);
     }
 
     #[test]

@@ -2,7 +2,7 @@ use Prim.Native.Nat.{ℕ, _≤_, _<_, _-_, _+_}
 use mathlib.Core.Path.{_≡_, refl, ap}
 use lib.ListN.{length, getD, length-set}
 use native.Mathlib.Nat.{not-suc-le-zero}
-use Rattle.weights.proofs.Steps.{stored-more}
+use Rattle.folds.proofs.Lists.{stored}
 use Rattle.weights.specs.Setting.{handedOn}
 use native.Mathlib.Omega.{arith}
 use borrow.Author.Needs.{needs}
@@ -40,7 +40,7 @@ loop-less : tie.Need-loop-less Inv-loop μ-loop
 loop-less c = search needs
 
 loop-again : tie.Need-loop-again Inv-loop μ-loop
-loop-again c = let l = c .before .before .loop in let o = c .before .before .before .before .before .args .first .own in let i = c .before .before .before .before .before .args .first .inh in let j = c .before .before .before .before .before .args .t2 in let t = c .before .loop-test .taken in (search needs, rw length-set (l .inv .1), stored-more (l .w) (l .r) _ (λ k. getD o k 0 + handedOn i (getD j k 0)) (let n = l .inv .1 in omega arith) (l .inv .2) (ap (λ (x : ℕ). getD o (l .r) 0 + x) (c .handed-on .ensures .0)))
+loop-again c = let l = c .before .before .loop in let o = c .before .before .before .before .before .args .first .own in let i = c .before .before .before .before .before .args .first .inh in let j = c .before .before .before .before .before .args .t2 in let t = c .before .loop-test .taken in (search needs, rw length-set (l .inv .1), stored (l .w) (l .r) _ (λ k y. y ≡ getD o k 0 + handedOn i (getD j k 0)) (let n = l .inv .1 in omega arith) (l .inv .2) (ap (λ (x : ℕ). getD o (l .r) 0 + x) (c .handed-on .ensures .0)))
 
 returns : tie.Need-returns Inv-loop μ-loop
 returns c = let l = c .before .loop in let t : 8 ≤ l .r = omega arith in record { role = λ k m. l .inv .2 k (omega arith) }
