@@ -55,12 +55,11 @@ mod tests {
     use crate::operator::Comparison;
     use crate::records::{ContextCondition, GroupCondition, Measure, Parameter};
     use crate::roles::RoleSet;
-    use crate::samples::small_shop;
+    use crate::samples::{edge, policy, small_shop};
 
     #[test]
     fn the_small_shop_has_three_roles_in_a_chain() {
         let shop = small_shop();
-        let edge = |senior, junior| Edge { senior, junior };
         assert_eq!(shop.roles, 3);
         assert_eq!(shop.hierarchy, [edge(0, 1), edge(1, 2)]);
         assert_eq!(shop.exclusions, []);
@@ -113,15 +112,6 @@ mod tests {
 
     #[test]
     fn the_small_shop_has_a_policy_for_each_role() {
-        let policy = |role, weight, inheritable, context| Policy {
-            role,
-            permission: 0,
-            weight,
-            inheritable,
-            context,
-            rank: 0,
-            issue_day: 0,
-        };
         let policies = [
             policy(0, 3, false, None),
             policy(1, 1, true, None),
