@@ -1,5 +1,6 @@
 pub mod Agree
 pub mod Chains
 pub mod Choice
+pub mod Known
 pub mod Steps
 pub mod Weigh
