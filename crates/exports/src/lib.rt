@@ -4,6 +4,8 @@ use weights::Context;
 ghost use mathlib.Core.Path.{_≡_};
 ghost use lib.ListN.{length};
 ghost use Rattle.reader.specs.Rules.{refusalOf};
+ghost use Rattle.report.specs.Report.{reportAnswer, Reported};
+ghost use Rattle.report.specs.Demand.{Demanded};
 ghost use Rattle.conflicts.specs.Conflicts.{conflictAnswer, conflictBytes};
 ghost use Rattle.exports.specs.Packed.{packed};
 ghost use Rattle.decision.specs.Decision.{decisionOf};
@@ -30,6 +32,25 @@ pub extern "C" fn release_decide(
 {
     let at = Context { minute, day, zone };
     decision::decide(base, permission, at, group) as u32
+}
+
+// The release report: 0, and 13 bytes a permission in out, or the first of refusals 1 to 9, 11 and 19 that applies; plus
+// 256 times the count, which is the number of permissions that have a group, of a refusal zero. base and out don't
+// overlap.
+#[no_mangle]
+pub extern "C" fn release_report(
+    base: &[u8],
+    minute: u32,
+    day: u32,
+    zone: u32,
+    out: &mut [u8],
+) -> u64
+    ensures answer { λ r. ⌜ r ≡ packed (reportAnswer (now (base .entry)) (record { minute = minute; day = day; zone = zone }) (length (now (out .entry)))) ⌝ }
+    ensures promise { λ _. ⌜ Reported (now (base .entry)) (record { minute = minute; day = day; zone = zone }) (now (out .entry)) (now (out .exit)) (reportAnswer (now (base .entry)) (record { minute = minute; day = day; zone = zone }) (length (now (out .entry)))) ⌝ }
+    ensures demand { λ _. ⌜ Demanded (now (base .entry)) (record { minute = minute; day = day; zone = zone }) (now (out .entry)) (now (out .exit)) (reportAnswer (now (base .entry)) (record { minute = minute; day = day; zone = zone }) (length (now (out .entry)))) ⌝ }
+{
+    let at = Context { minute, day, zone };
+    pack(report::report(base, at, out))
 }
 
 // The conflict list: 0, and the list in out, or the first of refusals 1 to 9 and 18; plus 256 times the count, which

@@ -1,0 +1,90 @@
+-- The parts of the permissions, one behind the other in the buffer.
+use Prim.Native.Nat.{ℕ, zero, suc, _+_, _-_, _*_, _<_, _≤_}
+use mathlib.Core.Bool.{Bool, true, false, cond}
+use mathlib.Core.Path.{_≡_, refl, sym, ap, _∙_}
+use mathlib.Core.Logic.{_⊎_, ⊎-elim}
+use mathlib.Core.List.{List, [], _∷_, _++_, append-assoc}
+use native.Mathlib.Omega.{arith}
+use native.Mathlib.Nat.{eq-or-lt-of-le, le-of-suc-le-suc, not-suc-le-zero}
+use native.Mathlib.Numerals.{add-one}
+use borrow.Author.Tests.{eq-eqb, ne-eqb}
+use borrow.Rule.Slice.PartMut.{putMid, postOf, post-is}
+use lib.Dec.{ltb, eqb}
+use lib.ListN.{length, getD, take, drop, replicate, length-append, length-replicate}
+use lib.Seq.{drop-drop, take-at, drop-at}
+use Rattle.folds.specs.Below.{joinBelow, sumBelow, countBelow}
+use Rattle.folds.proofs.Lists.{join-none, join-more, join-length, join-same}
+use Rattle.folds.proofs.Numbers.{sum-same, sum-none, sum-step, count-more}
+use Rattle.weights.specs.declared.Context.{Context}
+use Rattle.decision.specs.Decision.{decisionOf}
+use Rattle.report.specs.Smallest.{smallestOf}
+use Rattle.report.specs.Report.{ShownFor, partOf}
+use Rattle.report.specs.Parts.{PartFor, Filled}
+use Rattle.report.proofs.Least.{smallest-six}
+
+-- 13 bytes each
+sum-13 : (n : ℕ) → sumBelow n (λ i. 13) ≡ 13 * n
+sum-13 zero = sum-none (λ i. 13)
+sum-13 (suc n) = sum-step (λ i. 13) n ∙ (let h = sum-13 n in omega arith)
+
+module _ (b : List ℕ) (at : Context) where
+  -- a part has 13 bytes
+  pub part-13 : (p : ℕ) (g : List ℕ) → ShownFor b at p g → length (partOf (smallestOf b at p) g) ≡ 13
+  unfolding smallestOf
+  part-13 p g s =
+      let six = smallest-six (λ g. eqb (decisionOf b at p g) 0) in
+      let n = s .number in
+      omega (arith, length-append g (replicate {A = ℕ} (12 - 2 * smallestOf b at p) 255), length-replicate {A = ℕ} (12 - 2 * smallestOf b at p) 255)
+
+  -- the parts of n permissions
+  abbrev pub parts : (ℕ → List ℕ) → ℕ → List ℕ
+  parts chosen n = joinBelow n (λ p. partOf (smallestOf b at p) (chosen p))
+
+  pub parts-length : (chosen : ℕ → List ℕ) (n : ℕ) → ((p : ℕ) → p < n → ShownFor b at p (chosen p)) → length (parts chosen n) ≡ 13 * n
+  parts-length chosen n shown =
+      join-length (λ p. partOf (smallestOf b at p) (chosen p)) n
+      ∙ sum-same (λ p. length (partOf (smallestOf b at p) (chosen p))) (λ p. 13) n (λ p l. part-13 p (chosen p) (shown p l))
+      ∙ sum-13 n
+
+  pub filled-none : (out : List ℕ) → Filled b at 0 out out
+  filled-none out = record { chosen = λ p. []; shown = λ p l. absurd (not-suc-le-zero l); bytes = rw (join-none (λ p. partOf (smallestOf b at p) [])) }
+
+  -- the groups chosen, with that of one permission more
+  abbrev also : (ℕ → List ℕ) → ℕ → List ℕ → ℕ → List ℕ
+  also chosen p g q = cond (eqb q p) g (chosen q)
+
+  also-here : (chosen : ℕ → List ℕ) (p : ℕ) (g : List ℕ) (q : ℕ) → q ≡ p → also chosen p g q ≡ g
+  also-here chosen p g q e = rw (eq-eqb q p e)
+
+  also-other : (chosen : ℕ → List ℕ) (p : ℕ) (g : List ℕ) (q : ℕ) → q < p → also chosen p g q ≡ chosen q
+  also-other chosen p g q l = rw (ne-eqb q p (λ e. omega arith))
+
+  pub filled-more : (p : ℕ) (was out part : List ℕ) → Filled b at p was out → PartFor b at p part →
+      13 * p + 13 ≤ length out → Filled b at (p + 1) was (putMid (13 * p) (13 * p + 13 - 13 * p) out part)
+  filled-more p was out part f this fit = record {
+    chosen = also (f .chosen) p (this .group);
+    shown = λ q l. ⊎-elim
+        (λ e. rw (also-here (f .chosen) p (this .group) q e, e) (this .shown))
+        (λ m. rw (also-other (f .chosen) p (this .group) q m) (f .shown q m))
+        (eq-or-lt-of-le (le-of-suc-le-suc (rw add-one at l)));
+    bytes =
+        let a : ℕ = 13 * p in
+        let e : ℕ = 13 * p + 13 in
+        let next : 13 * (p + 1) ≡ e = omega arith in
+        let done = parts (f .chosen) p in
+        let len : length done ≡ a = parts-length (f .chosen) p (f .shown) in
+        let front : take a out ≡ done = rw (f .bytes) (take-at done (drop a was) a len) in
+        let back : drop a out ≡ drop a was = rw (f .bytes) (drop-at done (drop a was) a len) in
+        let post : postOf a (e - a) out ≡ drop e was = post-is a e out (omega arith) ∙ sym (drop-drop 13 a out) ∙ ap (λ (l : List ℕ). drop 13 l) back ∙ drop-drop 13 a was in
+        let more : parts (also (f .chosen) p (this .group)) (p + 1) ≡ done ++ part =
+        join-more (λ q. partOf (smallestOf b at q) (also (f .chosen) p (this .group) q)) p
+        ∙ rw (also-here (f .chosen) p (this .group) p refl, ← this .bytes) (ap (λ (l : List ℕ). l ++ part) (join-same (λ q. partOf (smallestOf b at q) (also (f .chosen) p (this .group) q)) (λ q. partOf (smallestOf b at q) (f .chosen q)) p (λ q l. ap (λ (x : List ℕ). partOf (smallestOf b at q) x) (also-other (f .chosen) p (this .group) q l)))) in
+        rw (front, post, next, more) (sym (append-assoc done part (drop e was)));
+  }
+
+  -- the count with one permission more
+  pub count-part : (p : ℕ) (part : List ℕ) (count more : ℕ) → PartFor b at p part → count ≡ countBelow p (λ q. ltb 0 (smallestOf b at q)) →
+      more ≡ cond (ltb 0 (getD part 0 0)) 1 0 → count + more ≡ countBelow (p + 1) (λ q. ltb 0 (smallestOf b at q))
+  count-part p part count more this e f =
+      let k : getD part 0 0 ≡ smallestOf b at p = ap (λ (l : List ℕ). getD l 0 0) (this .bytes) in
+      rw (e, f, k) (sym (count-more (λ q. ltb 0 (smallestOf b at q)) p))

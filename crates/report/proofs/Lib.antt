@@ -1,0 +1,16 @@
+pub mod Answers
+pub mod Bridge
+pub mod Copy
+pub mod Demand
+pub mod Filling
+pub mod Grow
+pub mod Joined
+pub mod Least
+pub mod Own
+pub mod Part
+pub mod Seek
+pub mod Shown
+pub mod Step
+pub mod Stepping
+pub mod Turned
+pub mod Users

@@ -1,0 +1,108 @@
+-- A permission's 13 bytes: what the search hands back, by the base.
+use Prim.Native.Nat.{ℕ, _*_, _<_, _≤_}
+use mathlib.Core.Bool.{Bool, true, false, _&&_}
+use mathlib.Core.Path.{_≡_, refl, sym, ap, _∙_}
+use mathlib.Core.Logic.{_↔_, ⊎-elim}
+use mathlib.Core.List.{List}
+use native.Mathlib.Omega.{arith}
+use native.Mathlib.Nat.{lt-of-lt-of-le}
+use borrow.Author.Tests.{eqb-true, eq-eqb, ltb-true, ltb-false, lt-ltb, le-ltb}
+use lib.Dec.{ltb, eqb, lit<}
+use lib.ListN.{length, getD, List·getD-eq-default}
+use Rattle.folds.specs.Sets.{inSet, setBelow}
+use Rattle.folds.proofs.Bools.{met-or-not}
+use Rattle.folds.proofs.Sets.{in-set, in-none}
+use Rattle.reader.specs.Tables.{users, clauses, roleCount, permissionCount, recordCount, tableOf}
+use Rattle.reader.specs.Rules.{refusalOf}
+use Rattle.reader.proofs.Frame.{roles-range, table-length, size-le}
+use Rattle.reader.proofs.Accepted.{accepted-frame}
+use Rattle.weights.specs.declared.Context.{Context}
+use Rattle.weights.specs.Contexts.{outOfRange}
+use Rattle.weights.specs.Weights.{weight}
+use Rattle.weights.specs.Acting.{mayActBy, mayAct}
+use Rattle.weights.specs.Setting.{AreWeights}
+use Rattle.weights.proofs.Known.{acting-known}
+use Rattle.decision.specs.Decision.{eligible, userCount, decisionOf}
+use Rattle.decision.specs.Conditions.{permissionHolds}
+use Rattle.decision.specs.Granting.{Granted}
+use Rattle.decision.proofs.Granting.{granted-by}
+use Rattle.report.specs.Smallest.{smallest, smallestOf}
+use Rattle.report.specs.Search.{Sought}
+use Rattle.report.specs.Parts.{ActingSets, PartFor}
+use Rattle.report.proofs.Bridge.{Tables}
+use Rattle.report.proofs.Least.{of-decision, users-le}
+use Rattle.report.proofs.Shown.{emptyTable, Shown, sought-shown}
+
+-- a test that implies two others is all three
+with-both : (a b c : Bool) → (c ≡ true → (a ≡ true) × (b ≡ true)) → c ≡ (a && (b && c))
+with-both true true c h = refl
+with-both true false true h = sym (h refl .1)
+with-both true false false h = refl
+with-both false b true h = sym (h refl .0)
+with-both false b false h = refl
+
+-- the table K of an accepted base has at most 1,024 bytes
+pub clauses-short : (b : List ℕ) → refusalOf b ≡ 0 → length (tableOf b clauses) ≤ 1024
+clauses-short b ok = rw (table-length b (accepted-frame b ok) 3 (lit< tt)) (size-le b (accepted-frame b ok) 3 (lit< tt))
+
+-- conditions that agree grant the same groups
+granted-same : {U R : ℕ} {may : ℕ → ℕ → Bool} {weigh : ℕ → ℕ} (c d : ℕ → ℕ → ℕ → Bool) → ((n sum set : ℕ) → c n sum set ≡ d n sum set) →
+    (t : List ℕ) → Granted U R may weigh c t → Granted U R may weigh d t
+granted-same c d same t g = record {
+  whole = g .whole;
+  some = g .some;
+  few = g .few;
+  user = g .user;
+  role = g .role;
+  different = g .different;
+  acting = g .acting;
+  heavy = g .heavy;
+  holds = sym (same _ _ _) ∙ g .holds;
+}
+
+module _ (b : List ℕ) (at : Context) (p : ℕ) (ok : refusalOf b ≡ 0) where
+  -- the sets of a base say who may act in which role
+  acting-is : (sets : List ℕ) → ActingSets b sets → (u r : ℕ) → r < 8 → inSet (getD sets u 0) r ≡ (ltb u (userCount b) && (ltb r (roleCount b) && mayAct b u r))
+  acting-is sets are u r low = ⊎-elim (λ t. there (ltb-true _ _ t)) (λ t. past (ltb-false _ _ t)) (met-or-not (ltb u 24))
+    where
+      there : u < 24 → inSet (getD sets u 0) r ≡ (ltb u (userCount b) && (ltb r (roleCount b) && mayAct b u r))
+      there l =
+          ap (λ (s : ℕ). inSet s r) (are .user u l) ∙ in-set (mayAct b u) 8 r low
+          ∙ with-both (ltb u (userCount b)) (ltb r (roleCount b)) (mayAct b u r)
+          (λ h. let k = acting-known (roleCount b) (tableOf b users) u r h in (lt-ltb _ _ (k .0), lt-ltb _ _ (k .1)))
+
+      past : 24 ≤ u → inSet (getD sets u 0) r ≡ (ltb u (userCount b) && (ltb r (roleCount b) && mayAct b u r))
+      past l =
+          let few = users-le b (accepted-frame b ok) in
+          let size = are .size in
+          let long : length sets ≤ u = omega arith in
+          let out : userCount b ≤ u = omega arith in
+          rw (List·getD-eq-default sets 0 long, in-none r, le-ltb _ _ out)
+
+  tables-of : (sets w : List ℕ) → ActingSets b sets → AreWeights b at p w → Tables (userCount b) (roleCount b) (eligible b at p) (λ r. weight b at r p) sets w
+  tables-of sets w acting are = record {
+    acting = acting-is sets acting;
+    weight = λ r l. are .role r (lt-of-lt-of-le l (roles-range b (accepted-frame b ok) .1));
+  }
+
+  -- what the search finds is the permission's part
+  pub part-shown : p < permissionCount b → outOfRange at ≡ false → (sets w k : List ℕ) → ActingSets b sets → AreWeights b at p w →
+      ((n sum set : ℕ) → permissionHolds k p n sum set ≡ permissionHolds (tableOf b clauses) p n sum set) →
+      (cell : ℕ) (part : List ℕ) → Sought sets w k p 0 emptyTable cell part → PartFor b at p part
+  unfolding smallestOf
+  part-shown there in-range sets w k acting are same cell part s =
+      let f : Shown granted part = sought-shown k p (tables-of sets w acting are) (roles-range b (accepted-frame b ok) .1) granted (of-decision b at p) is cell part s in
+      record {
+        group = f .group;
+        shown = record { number = f .number; granted = λ l. eqb-true _ _ (f .grants l); rising = f .rising };
+        bytes = f .bytes;
+      }
+    where
+      granted : List ℕ → Bool
+      granted g = eqb (decisionOf b at p g) 0
+
+      is : (t : List ℕ) → (granted t ≡ true) ↔ Granted (userCount b) (roleCount b) (eligible b at p) (λ r. weight b at r p) (permissionHolds k p) t
+      is t = (
+        λ h. granted-same (permissionHolds (tableOf b clauses) p) (permissionHolds k p) (λ n sum set. sym (same n sum set)) t (granted-by b at p t .0 (eqb-true _ _ h) .3),
+        λ g. eq-eqb _ _ (granted-by b at p t .1 (ok, there, in-range, granted-same (permissionHolds k p) (permissionHolds (tableOf b clauses) p) same t g)),
+      )

@@ -1,0 +1,94 @@
+-- Granted groups of bytes and lists of entries by rising user stand for each other: same number, sum and set.
+use Prim.Native.Nat.{ℕ, zero, suc, _+_, _*_, _^_, _<_, _≤_}
+use mathlib.Core.Bool.{Bool, true}
+use mathlib.Core.Path.{_≡_, refl, sym, ap, _∙_}
+use mathlib.Core.List.{List, [], _∷_, _++_, append-nil, append-assoc}
+use native.Mathlib.Omega.{arith}
+use native.Mathlib.Nat.{le-refl, le-trans, lt-of-lt-of-le, add-zero}
+use lib.ListN.{length, getD}
+use lib.Bits.{bitOr, or-comm, or-zero-l, or-zero-r}
+use Rattle.folds.proofs.Sets.{or-assoc}
+use Rattle.decision.specs.Groups.{entryCount, entryUser, sumOf as groupSum, rolesOf as groupRoles}
+use Rattle.decision.specs.Granting.{Granted}
+use Rattle.report.specs.Rising.{Entry, May, Rises, sumOf, rolesOf, bytesOf}
+use Rattle.report.proofs.Bridge.{Tables, Falls, bytesBack, falls-rising, falls-granted, granted-falls}
+
+-- the entries of g, turned round, before those of h
+abbrev turned : List Entry → List Entry → List Entry
+turned [] h = h
+turned (e ∷ g) h = turned g (e ∷ h)
+
+-- number, sum and set stay
+turned-length : (g h : List Entry) → length (turned g h) ≡ length g + length h
+turned-length [] h = omega arith
+turned-length (e ∷ g) h = let a = turned-length g (e ∷ h) in omega arith
+
+turned-sum : (w : List ℕ) (g h : List Entry) → sumOf w (turned g h) ≡ sumOf w g + sumOf w h
+turned-sum w [] h = omega arith
+turned-sum w (e ∷ g) h = let a = turned-sum w g (e ∷ h) in omega arith
+
+turned-roles : (g h : List Entry) → rolesOf (turned g h) ≡ bitOr (rolesOf g) (rolesOf h)
+turned-roles [] h = sym (or-zero-l (rolesOf h))
+turned-roles (e ∷ g) h =
+    turned-roles g (e ∷ h) ∙ sym (or-assoc (rolesOf g) (2 ^ (e .role)) (rolesOf h)) ∙ ap (λ (x : ℕ). bitOr x (rolesOf h)) (or-comm (rolesOf g) (2 ^ (e .role)))
+
+-- and so do the bytes, read the other way
+turned-bytes : (g h : List Entry) → bytesBack (turned g h) ≡ bytesBack h ++ bytesOf g
+turned-bytes [] h = sym (append-nil (bytesBack h))
+turned-bytes (e ∷ g) h = turned-bytes g (e ∷ h) ∙ append-assoc (bytesBack h) (e .user ∷ e .role ∷ []) (bytesOf g)
+
+-- each entry is 2 bytes
+pub bytes-length : (g : List Entry) → length (bytesOf g) ≡ 2 * length g
+bytes-length [] = refl
+bytes-length (e ∷ g) = let h = bytes-length g in omega arith
+
+module _ (sets w : List ℕ) where
+  -- a rising list rises from any earlier user on
+  pub rises-less : (a b : ℕ) (g : List Entry) → b ≤ a → Rises sets w a g → Rises sets w b g
+  rises-less a b [] h r = tt
+  rises-less a b (e ∷ g) h r = (le-trans h (r .0), r .1, r .2)
+
+  -- a falling list lies below any later end
+  falls-more : (a b : ℕ) (g : List Entry) → a ≤ b → Falls sets w a g → Falls sets w b g
+  falls-more a b [] h f = tt
+  falls-more a b (e ∷ g) h f = (lt-of-lt-of-le (f .0) h, f .1, f .2)
+
+  -- a rising list falls the other way round
+  rises-falls : (from : ℕ) (g h : List Entry) → Rises sets w from g → Falls sets w from h → (end : ℕ) × Falls sets w end (turned g h)
+  rises-falls from [] h r f = (from, f)
+  rises-falls from (e ∷ g) h r f = rises-falls (e .user + 1) g (e ∷ h) (r .2) (omega arith, r .1, falls-more from (e .user) h (r .0) f)
+
+  -- and a falling one rises
+  falls-rises : (end : ℕ) (g h : List Entry) → Falls sets w end g → Rises sets w end h → Rises sets w 0 (turned g h)
+  falls-rises end [] h f r = rises-less end 0 h (omega arith) r
+  falls-rises end (e ∷ g) h f r = falls-rises (e .user) g (e ∷ h) (f .2) (le-refl (e .user), f .1, rises-less end (e .user + 1) h (let l = f .0 in omega arith) r)
+
+  -- the users in the bytes of a rising list rise strictly
+  pub rises-rising : (g : List Entry) → Rises sets w 0 g → (i j : ℕ) → i < j → j < length g → entryUser (bytesOf g) i < entryUser (bytesOf g) j
+  rises-rising g r i j k l =
+      let (end, f) = rises-falls 0 g [] r tt in
+      let n = turned-length g [] in
+      rw (turned-bytes g []) at (falls-rising sets w end (turned g []) f i j k (omega arith))
+
+module _ {U R : ℕ} {may : ℕ → ℕ → Bool} {weigh : ℕ → ℕ} {sets w : List ℕ} (condition : ℕ → ℕ → ℕ → Bool) (tables : Tables U R may weigh sets w) where
+  -- a rising list of entries that meets the condition is a granted group
+  pub rises-granted : (g : List Entry) → 1 ≤ length g → length g ≤ 6 → Rises sets w 0 g
+      → condition (length g) (sumOf w g) (rolesOf g) ≡ true → Granted U R may weigh condition (bytesOf g)
+  rises-granted g some few r h =
+      let (end, f) = rises-falls sets w 0 g [] r tt in
+      let n : length (turned g []) ≡ length g = turned-length g [] ∙ add-zero (length g) in
+      let s : sumOf w (turned g []) ≡ sumOf w g = turned-sum w g [] ∙ add-zero (sumOf w g) in
+      let q : rolesOf (turned g []) ≡ rolesOf g = turned-roles g [] ∙ or-zero-r (rolesOf g) in
+      rw (turned-bytes g []) at (falls-granted condition tables end (turned g []) (rw n some) (rw n few) f (rw (n, s, q) h))
+
+  -- every granted list has a rising list of entries with the same number, sum and set
+  pub granted-rises : R ≤ 8 → (t : List ℕ) → Granted U R may weigh condition t
+      → (g : List Entry) × (length g ≡ entryCount t) × Rises sets w 0 g × (condition (length g) (sumOf w g) (rolesOf g) ≡ true)
+  granted-rises small t d =
+      let (g, n, f, s, q) = granted-falls condition tables small t d in
+      let k : length (turned g []) ≡ entryCount t = turned-length g [] ∙ add-zero (length g) ∙ n in (
+        turned g [],
+        k,
+        falls-rises sets w U g [] f tt,
+        rw (k, turned-sum w g [] ∙ add-zero (sumOf w g) ∙ s, turned-roles g [] ∙ or-zero-r (rolesOf g) ∙ q) (d .holds),
+      )

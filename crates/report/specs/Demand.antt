@@ -1,0 +1,51 @@
+-- Demand 3, in the customer's words: of the answer, and of the bytes as they stand in the buffer.
+use Prim.Native.Nat.{ℕ, _+_, _*_, _<_, _≤_}
+use mathlib.Core.Bool.{Bool, true, false}
+use mathlib.Core.Path.{_≡_}
+use mathlib.Core.Logic.{_↔_}
+use mathlib.Core.List.{List}
+use lib.ListN.{length, getD, take, drop}
+use lib.Dec.{eqb}
+use Rattle.folds.specs.Below.{anyBelow, countBelow}
+use Rattle.reader.specs.declared.Answer.{Answer}
+use Rattle.reader.specs.Tables.{permissionCount}
+use Rattle.reader.specs.Rules.{refusalOf}
+use Rattle.weights.specs.declared.Context.{Context}
+use Rattle.weights.specs.Contexts.{outOfRange}
+use Rattle.decision.specs.Decision.{decisionOf}
+use Rattle.decision.specs.Groups.{entryCount, entryUser}
+
+-- the number of approvers that the buffer carries for permission p
+abbrev pub numberFor : List ℕ → ℕ → ℕ
+numberFor out p = getD out (13 * p) 0
+
+-- the bytes of the group that it shows
+abbrev pub groupFor : List ℕ → ℕ → List ℕ
+groupFor out p = take (2 * numberFor out p) (drop (13 * p + 1) out)
+
+-- the number of users of a group: of how many numbers below 256 an entry has that user
+unfoldable pub userNum : List ℕ → ℕ
+userNum g = countBelow 256 (λ u. anyBelow (entryCount g) (λ i. eqb (entryUser g i) u))
+
+-- the decider grants some group permission p
+abbrev pub SomeGranted : List ℕ → Context → ℕ → Type 0
+SomeGranted b at p = (t : List ℕ) × (decisionOf b at p t ≡ 0)
+
+-- demand 3 of the answer r and the buffer out: groups are all lists of numbers whatever
+pub record Demand3 (b : List ℕ) (at : Context) (out : List ℕ) (r : Answer) : Type 0 where
+  pub done : r .refusal ≡ 0
+  -- the number is zero exactly when the decider grants no group
+  pub zero : (p : ℕ) → p < permissionCount b → (numberFor out p ≡ 0) ↔ (SomeGranted b at p → ⊥)
+  -- above zero, the group shown has that many users and is granted
+  pub users : (p : ℕ) → p < permissionCount b → 0 < numberFor out p → userNum (groupFor out p) ≡ numberFor out p
+  pub granted : (p : ℕ) → p < permissionCount b → 0 < numberFor out p → decisionOf b at p (groupFor out p) ≡ 0
+  -- every group that is granted has at least as many
+  pub least : (p : ℕ) → p < permissionCount b → (t : List ℕ) → decisionOf b at p t ≡ 0 → numberFor out p ≤ userNum t
+  -- the count is the number of permissions for which some group is granted
+  pub can : ℕ → Bool
+  pub can-is : (p : ℕ) → p < permissionCount b → (can p ≡ true) ↔ SomeGranted b at p
+  pub count : r .count ≡ countBelow (permissionCount b) can
+
+-- what is demanded of the call: demand 3, where none of refusals 1 to 9, 11 and 19 applies
+abbrev pub Demanded : List ℕ → Context → List ℕ → List ℕ → Answer → Type 0
+Demanded b at out after r = refusalOf b ≡ 0 → outOfRange at ≡ false → 13 * permissionCount b ≤ length out → Demand3 b at after r

@@ -1,0 +1,9 @@
+pub mod Smallest
+pub mod Rising
+pub mod Levels
+pub mod Clauses
+pub mod Back
+pub mod Search
+pub mod Report
+pub mod Parts
+pub mod Demand

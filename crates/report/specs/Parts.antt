@@ -1,0 +1,33 @@
+-- What the report's steps hand on.
+use Prim.Native.Nat.{ℕ, _*_, _<_, _≤_}
+use mathlib.Core.Path.{_≡_}
+use mathlib.Core.List.{List, _++_}
+use lib.ListN.{length, getD, drop}
+use Rattle.folds.specs.Below.{joinBelow}
+use Rattle.folds.specs.Sets.{setBelow}
+use Rattle.weights.specs.declared.Context.{Context}
+use Rattle.weights.specs.Acting.{mayAct}
+use Rattle.report.specs.Smallest.{smallestOf}
+use Rattle.report.specs.Report.{ShownFor, partOf}
+
+-- for each of 24 users the set of the roles that the user may act in; empty for users that aren't there
+pub record ActingSets (b sets : List ℕ) : Type 0 where
+  pub size : length sets ≡ 24
+  pub user : (u : ℕ) → u < 24 → getD sets u 0 ≡ setBelow 8 (mayAct b u)
+
+-- no role weighs more than m, which is at most 40
+pub record Heaviest (w : List ℕ) (m : ℕ) : Type 0 where
+  pub role : (r : ℕ) → r < 8 → getD w r 0 ≤ m
+  pub at-most : m ≤ 40
+
+-- the 13 bytes of permission p
+pub record PartFor (b : List ℕ) (at : Context) (p : ℕ) (part : List ℕ) : Type 0 where
+  pub group : List ℕ
+  pub shown : ShownFor b at p group
+  pub bytes : part ≡ partOf (smallestOf b at p) group
+
+-- the parts of the permissions below n stand in the buffer that held `out`; the bytes behind them are as they were
+pub record Filled (b : List ℕ) (at : Context) (n : ℕ) (out after : List ℕ) : Type 0 where
+  pub chosen : ℕ → List ℕ
+  pub shown : (p : ℕ) → p < n → ShownFor b at p (chosen p)
+  pub bytes : after ≡ joinBelow n (λ p. partOf (smallestOf b at p) (chosen p)) ++ drop (13 * n) out

@@ -1,0 +1,43 @@
+// The release report: the smallest group for each permission.
+use reader::Answer;
+use weights::Context;
+ghost use mathlib.Core.Path.{_≡_};
+ghost use Rattle.report.specs.Report.{Reported};
+ghost use Rattle.report.specs.Demand.{Demanded};
+
+mod back;
+mod clauses;
+mod levels;
+mod parts;
+pub mod search;
+
+// Entry point: writes 13 bytes a permission; refusals 1 to 9, 11 and 19. The count is the number of permissions that
+// have a group.
+pub fn report(base: &[u8], at: Context, out: &mut [u8]) -> Answer
+    ensures promise { λ r. ⌜ Reported (now (base .entry)) at (now (out .entry)) (now (out .exit)) r ⌝ }
+    ensures demand { λ r. ⌜ Demanded (now (base .entry)) at (now (out .entry)) (now (out .exit)) r ⌝ }
+{
+    let refused = reader::check(base);
+    if refused != 0 {
+        return Answer {
+            refusal: refused,
+            count: 0,
+        };
+    }
+    if weights::contexts::out_of_range(at) {
+        return Answer {
+            refusal: 11,
+            count: 0,
+        };
+    }
+    if out.len() < 13 * levels::wide(reader::trailer::permission_count(base)) {
+        return Answer {
+            refusal: 19,
+            count: 0,
+        };
+    }
+    let s = weights::setting(base, at);
+    let sets = parts::acting_sets(base);
+    let count = parts::fill(base, s, sets, out);
+    Answer { refusal: 0, count }
+}

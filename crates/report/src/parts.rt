@@ -1,0 +1,99 @@
+// The 13 bytes of each permission.
+use crate::clauses;
+use crate::levels;
+use crate::search;
+use weights::Fixed;
+ghost use mathlib.Core.Path.{_≡_};
+ghost use mathlib.Core.Bool.{false, cond};
+ghost use Prim.Native.Nat.{ℕ, _*_, _≤_, _<_};
+ghost use lib.ListN.{length, getD};
+ghost use lib.Dec.{ltb};
+ghost use Rattle.folds.specs.Below.{countBelow};
+ghost use Rattle.reader.specs.Tables.{permissionCount};
+ghost use Rattle.reader.specs.Rules.{refusalOf};
+ghost use Rattle.weights.specs.Contexts.{outOfRange};
+ghost use Rattle.weights.specs.Setting.{FixedBy};
+ghost use Rattle.report.specs.Smallest.{smallestOf};
+ghost use Rattle.report.specs.Report.{releasable};
+ghost use Rattle.report.specs.Parts.{ActingSets, Heaviest, PartFor, Filled};
+
+// Inner: for each user of an accepted base the set of the roles that the user may act in.
+pub fn acting_sets(base: &[u8]) -> [u8; 24]
+    requires { ⌜ refusalOf (now base) ≡ 0 ⌝ }
+    ensures { λ sets. ⌜ ActingSets (now (base .entry)) sets ⌝ }
+{
+    let users = reader::table(base, reader::USERS);
+    let roles = reader::trailer::role_count(base);
+    let mut sets = [0u8; 24];
+    for u in 0..24usize {
+        sets[u] = weights::acting::acting_roles(users, roles, u);
+    }
+    sets
+}
+
+// The largest weight.
+fn heaviest(w: [u8; 8]) -> usize
+    requires { ⌜ ((r : ℕ) → r < 8 → getD w r 0 ≤ 40) ⌝ }
+    ensures { λ m. ⌜ Heaviest w m ⌝ }
+{
+    let mut m: usize = 0;
+    for r in 0..8usize {
+        let x = levels::wide(w[r]);
+        if m < x {
+            m = x;
+        }
+    }
+    m
+}
+
+// A permission's 13 bytes, by what base and context fix and who may act in which role.
+fn part_for(base: &[u8], s: Fixed, sets: [u8; 24], permission: u8) -> [u8; 13]
+    requires { ⌜ (refusalOf (now base) ≡ 0) × (permission < permissionCount (now base)) × (outOfRange (s .at) ≡ false) × FixedBy (now base) s × ActingSets (now base) sets ⌝ }
+    ensures { λ part. ⌜ PartFor (now (base .entry)) (s .at) permission part ⌝ }
+{
+    let w = weights::role_weights(base, s, permission);
+    let own = clauses::own_clauses(reader::table(base, reader::CLAUSES), permission);
+    let k = own.bytes;
+    let length = own.length;
+    let heavy = heaviest(w);
+    let mut t = [255u8; 61696];
+    t[0] = 0;
+    let found = search::search(&sets, w, heavy, &k[..length], permission, 0, 0, &t);
+    found.part
+}
+
+// Writes the 13 bytes.
+fn put(out: &mut [u8], part: [u8; 13])
+    requires { ⌜ (length (now out) ≡ 13) × (length part ≡ 13) ⌝ }
+    ensures { λ _. ⌜ now (out .exit) ≡ part ⌝ }
+{
+    for i in 0..13usize {
+        out[i] = part[i];
+    }
+}
+
+// 1 for a number above 0.
+fn above(k: u8) -> u32
+    ensures { λ r. ⌜ (r ≡ cond (ltb 0 k) 1 0) × (r ≤ 1) ⌝ }
+{
+    if 0 < k {
+        return 1;
+    }
+    0
+}
+
+// Inner: writes each permission's part; the number of permissions that have a group.
+pub fn fill(base: &[u8], s: Fixed, sets: [u8; 24], out: &mut [u8]) -> u32
+    requires { ⌜ (refusalOf (now base) ≡ 0) × (outOfRange (s .at) ≡ false) × FixedBy (now base) s × ActingSets (now base) sets × (13 * permissionCount (now base) ≤ length (now out)) ⌝ }
+    ensures { λ r. ⌜ (r ≡ releasable (now (base .entry)) (s .at)) × Filled (now (base .entry)) (s .at) (permissionCount (now (base .entry))) (now (out .entry)) (now (out .exit)) ⌝ }
+{
+    let n = reader::trailer::permission_count(base);
+    let mut count: u32 = 0;
+    for p in 0..n {
+        let part = part_for(base, s, sets, p);
+        let at = 13 * levels::wide(p);
+        put(&mut out[at..at + 13], part);
+        count = count + above(part[0]);
+    }
+    count
+}
