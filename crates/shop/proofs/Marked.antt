@@ -1,0 +1,79 @@
+-- The marked cases hold: all but the related contexts by computing both sides.
+use Prim.Native.Nat.{ℕ, _+_}
+use mathlib.Core.Bool.{or-false}
+use mathlib.Core.Path.{_≡_, refl}
+use mathlib.Core.List.{List}
+use native.Mathlib.Omega.{arith}
+use Rattle.folds.specs.Below.{anyBelow}
+use Rattle.reader.specs.Bytes.{word16, word32}
+use Rattle.reader.specs.Tables.{contexts, recordCount, tableOf, tableOffset, tableCount, roleCount, lengthBad, lettersBad, rolesBad, reservedBad, tableStart, tablesBad, trailerBad, frameRefusal}
+use Rattle.reader.specs.Codes.{codeProduct, parameterOk, heldBy}
+use Rattle.reader.specs.Rules.{hierarchyBad, usersBad, clauseSlotBad, clauseBad, clausesBad, contextConditionBad, contextSlotBad, contextBad, contextsBad, policyBad, policiesBad, exclusionsBad, recordsRefusal, refusalOf}
+use Rattle.reader.proofs.Accepted.{accepted}
+use Rattle.weights.specs.Contexts.{outOfRange, contextHolds}
+use Rattle.weights.specs.Weights.{weight}
+use Rattle.decision.specs.Conditions.{permissionHolds}
+use Rattle.decision.specs.Groups.{sumOf, lengthRefused, someUnknown, standsBefore, someTwice, someIneligible, someWeightless}
+use Rattle.decision.specs.Decision.{groupDecision, decisionOf}
+use Rattle.conflicts.specs.Related.{related, fits, bothFit, someValueFits, meetable, compatible, meetsSome}
+use Rattle.conflicts.proofs.Tables.{whole-contexts}
+use Rattle.conflicts.proofs.Relating.{related-pairs}
+use Rattle.shop.specs.Shop.{shop, withParameter, upTo600, from600, before600, before0, edges}
+use Rattle.shop.specs.Marked.{Marked}
+
+-- in an accepted base the test by pairs of clauses, which computes, says whether two context numbers are related
+related-by : (b : List ℕ) → refusalOf b ≡ 0 → (x y : ℕ) →
+    related (tableOf b contexts) x y ≡ anyBelow (recordCount contexts (tableOf b contexts) + 1) (meetsSome (tableOf b contexts) x y)
+related-by b ok = related-pairs (tableOf b contexts) (accepted b ok .contexts) (whole-contexts b ok)
+
+pub marked : Marked
+unfolding shop withParameter edges
+    word16 word32 tableOf tableOffset tableCount tableStart roleCount frameRefusal
+    lengthBad lettersBad trailerBad rolesBad reservedBad tablesBad
+    hierarchyBad usersBad parameterOk codeProduct clausesBad clauseBad clauseSlotBad contextsBad contextBad contextSlotBad contextConditionBad policiesBad policyBad exclusionsBad
+    recordsRefusal refusalOf
+    contextHolds weight
+    outOfRange lengthRefused someUnknown someTwice standsBefore someIneligible heldBy someWeightless sumOf permissionHolds groupDecision decisionOf
+    fits bothFit someValueFits meetable compatible
+marked =
+    record {
+      roles = refl;
+      offsets = refl;
+      size = refl;
+      passes = refl;
+      manager-600 = refl;
+      buyer-600 = refl;
+      clerk-600 = refl;
+      manager-480 = refl;
+      buyer-480 = refl;
+      clerk-480 = refl;
+      clerk-540 = refl;
+      clerk-1020 = refl;
+      clerk-539 = refl;
+      clerk-1021 = refl;
+      alone = refl;
+      alone-sum = refl;
+      alone-entries = refl;
+      two = refl;
+      two-sum = refl;
+      three = refl;
+      three-sum = refl;
+      weightless = refl;
+      twice = λ c h. rw h;
+      not-held = λ c h. rw h;
+      parameter-is = λ x. omega arith;
+      parameter-roles = λ x. refl;
+      parameter-1 = refl;
+      parameter-105 = refl;
+      parameter-0 = refl;
+      parameter-9 = refl;
+      parameter-11 = refl;
+      edges-pass = refl;
+      up-to-600 = λ c. simp or-false;
+      from-600 = λ c. simp or-false;
+      before-600 = λ c. simp or-false;
+      before-0 = λ c. refl;
+      met-at-600 = related-by edges refl upTo600 from600;
+      apart-at-600 = related-by edges refl before600 from600;
+      never = related-by edges refl before0 before0;
+    }

@@ -1,0 +1,1 @@
+// Theorems alone: the paper's small shop and its marked cases.
