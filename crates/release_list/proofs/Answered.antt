@@ -1,0 +1,150 @@
+-- The report's answer and bytes as text.
+use Prim.Native.Nat.{ℕ, _+_, _<_, _≤_}
+use mathlib.Core.Bool.{Bool, true, false, cond}
+use mathlib.Core.Path.{_≡_, refl, sym, ap, _∙_}
+use mathlib.Core.List.{List, [], _++_}
+use native.Mathlib.Nat.{zero-add}
+use native.Mathlib.Omega.{arith}
+use borrow.Author.Tests.{eq-eqb, ne-eqb, lt-ltb, le-ltb, eqb-true}
+use lib.Dec.{eqb}
+use lib.ListN.{length, drop, length-append}
+use lib.Seq.{sets-eq}
+use Rattle.folds.specs.Below.{joinBelow}
+use Rattle.reader.specs.declared.Answer.{Answer}
+use Rattle.reader.specs.Tables.{permissionCount, frameRefusal}
+use Rattle.reader.proofs.Accepted.{accepted-frame}
+use Rattle.weights.specs.declared.Context.{Context}
+use Rattle.report.specs.Smallest.{smallestOf}
+use Rattle.report.specs.Report.{reportRefusal, releasable, reportAnswer, ShownFor, Reported}
+use Rattle.release_list.specs.Text.{ascii, lineText, countText, refusedText, releasableText, reportText, baseOf, contextOf, listingText, Listed}
+use Rattle.release_list.specs.Writing.{Written, Parts, linesText, ReportListed}
+use Rattle.release_list.proofs.Stores.{joined}
+use Rattle.release_list.proofs.Sizes.{count-length}
+use Rattle.release_list.proofs.Decimal.{two-length, three-length}
+use Rattle.release_list.proofs.Shown.{base-accepted, shown-parts, shown-lines, lines-le, releasable-few}
+
+-- a text written from byte 0 on, and the bytes behind it as they were
+pub at-front : (text : List ℕ) {out after : List ℕ} {n : ℕ} → Written text out 0 n after → length text ≤ length out →
+    (n ≡ length text) × (after ≡ text ++ drop n out)
+at-front text {out} {after} {n} w l =
+    let e : n ≡ length text = w .place ∙ zero-add (length text) in
+    (e, w .bytes ∙ sets-eq text out 0 (rw zero-add l) ∙ rw (zero-add, e))
+
+-- a line of few words and a number is short
+pub count-short : (words : List ℕ) (n : ℕ) → length words ≤ 11 → length (countText words n) ≤ 15
+count-short words n l = let e = count-length words n in let h = three-length n in omega arith
+
+-- what is known of a report that isn't refused, before its text is written: 16 lines of at most 47 bytes and a last line of 14 fit
+pub record Ready (b after : List ℕ) (r : Answer) : Type 0 where
+  pub tables : frameRefusal b ≡ 0
+  pub parts : Parts after (permissionCount b)
+  pub lines : length (linesText after (permissionCount b)) ≤ 752
+  pub count : r .count ≤ 16
+  pub last : length (releasableText (r .count)) ≤ 14
+
+-- the answer of a report in a buffer of 208 bytes
+module _ (b : List ℕ) (at : Context) (was after : List ℕ) (r : Answer) (size : length was ≡ 208) (d : Reported b at was after r) where
+  answer-is : r ≡ reportAnswer b at 208
+  answer-is = d .answer ∙ ap (reportAnswer b at) size
+
+  refusal-is : r .refusal ≡ reportRefusal b at 208
+  unfolding reportAnswer
+  refusal-is = ap (λ (x : Answer). x .refusal) answer-is ∙ by (eqb (reportRefusal b at 208) 0) refl
+    where
+      by : (t : Bool) → eqb (reportRefusal b at 208) 0 ≡ t →
+          cond {A = Answer} t (record { refusal = 0; count = releasable b at }) (record { refusal = reportRefusal b at 208; count = 0 }) .refusal ≡ reportRefusal b at 208
+      by true e = sym (eqb-true _ _ e)
+      by false e = refl
+
+  pub refused-listed : (r .refusal ≡ 0 → ⊥) → {out text : List ℕ} {n : ℕ} → 768 ≤ length out → Written (refusedText (r .refusal)) out 0 n text →
+      ReportListed b at out text n
+  unfolding reportText
+  refused-listed h {out} l w =
+      let e : eqb (reportRefusal b at 208) 0 ≡ false = ne-eqb _ 0 (λ z. h (refusal-is ∙ z)) in
+      let t = at-front (refusedText (r .refusal)) w (omega (arith, count-short (ascii "refused ") (r .refusal) (omega arith))) in
+      record {
+        chosen = d .chosen;
+        shown = rw size at (d .shown);
+        size = rw (e, ← refusal-is) (t .0);
+        bytes = rw (e, ← refusal-is) (t .1);
+      }
+
+  -- a report that isn't refused
+  module _ (done : r .refusal ≡ 0) where
+    unrefused : reportRefusal b at 208 ≡ 0
+    unrefused = sym refusal-is ∙ done
+
+    shows : (p : ℕ) → p < permissionCount b → ShownFor b at p (d .chosen p)
+    shows = d .shown (rw size unrefused)
+
+    count-is : r .count ≡ releasable b at
+    unfolding reportAnswer
+    count-is = ap (λ (x : Answer). x .count) answer-is ∙ rw (eq-eqb (reportRefusal b at 208) 0 unrefused)
+
+    count-few : r .count ≤ 16
+    count-few = rw count-is (releasable-few b at (d .chosen) unrefused shows)
+
+    last-short : length (releasableText (r .count)) ≤ 14
+    last-short =
+        let few = count-few in
+        let e = count-length (ascii "releasable ") (r .count) in
+        let h = two-length (r .count) (omega arith) in
+        omega arith
+
+    lines-are : linesText after (permissionCount b) ≡ joinBelow (permissionCount b) (λ p. lineText p (smallestOf b at p) (d .chosen p))
+    lines-are = rw (d .bytes) (shown-lines b at (d .chosen) unrefused shows was size)
+
+    lines-short : length (linesText after (permissionCount b)) ≤ 752
+    lines-short = rw lines-are (lines-le b at (d .chosen) unrefused shows)
+
+    pub report-ready : length after ≡ 208 → Ready b after r
+    report-ready l = record {
+      tables = accepted-frame b (base-accepted b at 208 unrefused);
+      parts = rw (d .bytes) (shown-parts b at (d .chosen) unrefused shows was size (rw (d .bytes) at l));
+      lines = lines-short;
+      count = count-few;
+      last = last-short;
+    }
+
+    pub done-listed : {out mid text : List ℕ} {next n : ℕ} → 768 ≤ length out → Written (linesText after (permissionCount b)) out 0 next mid →
+        Written (releasableText (r .count)) mid next n text → ReportListed b at out text n
+    unfolding reportText
+    done-listed {out} l v w =
+        let e = eq-eqb (reportRefusal b at 208) 0 unrefused in
+        let fit : length (linesText after (permissionCount b) ++ releasableText (r .count)) ≤ length out = rw length-append (omega (arith, lines-short, last-short)) in
+        let t = at-front (linesText after (permissionCount b) ++ releasableText (r .count)) (joined v w) fit in
+        record {
+          chosen = d .chosen;
+          shown = rw size at (d .shown);
+          size = rw (e, ← count-is, ← lines-are) (t .0);
+          bytes = rw (e, ← count-is, ← lines-are) (t .1);
+        }
+
+-- what the program prints for an input shorter than 4 bytes
+pub short-listed : {input out after : List ℕ} {n : ℕ} → length input < 4 → 768 ≤ length out → Written (refusedText 1) out 0 n after → Listed input out after n
+unfolding listingText
+short-listed {input} {out} h l w =
+    let e = lt-ltb (length input) 4 h in
+    let t = at-front (refusedText 1) w (omega (arith, count-short (ascii "refused ") 1 (omega arith))) in
+    record {
+      chosen = λ p. [];
+      shown = λ k. absurd (omega arith);
+      size = rw e (t .0);
+      bytes = rw e (t .1);
+    }
+
+-- and for any other
+pub long-listed : {input out after : List ℕ} {n : ℕ} → 4 ≤ length input → ReportListed (baseOf input) (contextOf input) out after n → Listed input out after n
+unfolding listingText
+long-listed {input} h d =
+    let e = le-ltb (length input) 4 h in
+    record {
+      chosen = d .chosen;
+      shown = λ k. d .shown;
+      size = rw e (d .size);
+      bytes = rw e (d .bytes);
+    }
+
+-- the text lies within the buffer
+pub listed-within : {input out after : List ℕ} {n : ℕ} → Listed input out after n → n ≤ length after
+listed-within {out = out} {n = n} d = rw (d .bytes, length-append) (omega (arith, d .size))

@@ -1,0 +1,55 @@
+-- Texts written one behind the other.
+use Prim.Native.Nat.{ℕ, suc, _+_, _<_, _≤_}
+use mathlib.Core.Path.{_≡_, refl, sym, ap, _∙_}
+use mathlib.Core.List.{List, [], _∷_, _++_}
+use native.Mathlib.Numerals.{add-one}
+use native.Mathlib.Nat.{add-zero}
+use native.Mathlib.Omega.{arith}
+use lib.ListN.{length, getD, set, take, length-append}
+use lib.Seq.{sets, length-sets, take-suc, length-take-le}
+use Rattle.folds.specs.Below.{joinBelow}
+use Rattle.folds.proofs.Lists.{join-none, join-more, join-length}
+use Rattle.folds.proofs.Numbers.{sum-le-sum}
+use Rattle.release_list.specs.Writing.{Written}
+
+-- two lists are written one behind the other
+sets-append : (l : List ℕ) (i : ℕ) (xs ys : List ℕ) → sets l i (xs ++ ys) ≡ sets (sets l i xs) (i + length xs) ys
+sets-append l i [] ys = rw add-zero
+sets-append l i (x ∷ xs) ys = sets-append (set l i x) (suc i) xs ys ∙ ap (λ k. sets (sets (set l i x) (suc i) xs) k ys) (omega arith)
+
+-- one byte more of a list
+pub one-more : (l : List ℕ) (at : ℕ) (xs : List ℕ) (i : ℕ) → i < length xs →
+    set (sets l at (take i xs)) (at + i) (getD xs i 0) ≡ sets l at (take (i + 1) xs)
+one-more l at xs i h =
+    rw (add-one, take-suc xs i 0, sets-append l at (take i xs) (getD xs i 0 ∷ []), length-take-le i xs (omega arith))
+
+module _ {xs ys l m k : List ℕ} {at next behind : ℕ} where
+  -- a text behind another
+  pub joined : Written xs l at next m → Written ys m next behind k → Written (xs ++ ys) l at behind k
+  joined a b =
+      let p = a .place in
+      let q = b .place in
+      record {
+        place = rw length-append (omega arith);
+        bytes = b .bytes ∙ rw (a .bytes, p, sets-append l at xs ys);
+      }
+
+-- what a text is written into keeps its length
+pub same-size : {xs l m : List ℕ} {at next : ℕ} → Written xs l at next m → length m ≡ length l
+same-size {xs} {l} {at = at} w = ap length (w .bytes) ∙ length-sets l at xs
+
+module _ (f : ℕ → List ℕ) where
+  -- no text yet
+  pub none-written : (l : List ℕ) (at : ℕ) → Written (joinBelow 0 f) l at at l
+  none-written l at = rw (join-none f) (record { place = sym (add-zero at); bytes = refl })
+
+  -- one text more
+  pub more-written : (n : ℕ) {l m k : List ℕ} {at next behind : ℕ} →
+      Written (joinBelow n f) l at next m → Written (f n) m next behind k → Written (joinBelow (n + 1) f) l at behind k
+  more-written n a b = rw (join-more f n) (joined a b)
+
+  -- the texts before one, and its own, are no longer than all
+  pub room-more : (i n : ℕ) → i < n → length (joinBelow i f) + length (f i) ≤ length (joinBelow n f)
+  room-more i n h =
+      rw (← length-append, ← join-more f i, join-length f (i + 1), join-length f n)
+      (sum-le-sum (λ j. length (f j)) (i + 1) n (omega arith))

@@ -1,0 +1,98 @@
+// The text of a report. Each function writes its text from a place on and returns the place behind it.
+ghost use mathlib.Core.Path.{_≡_};
+ghost use Prim.Native.Nat.{_+_, _≤_};
+ghost use lib.ListN.{length};
+ghost use Rattle.release_list.specs.Text.{decimal, countText, entryText, lineText};
+ghost use Rattle.release_list.specs.Writing.{Written, standingText, Rising, Parts, linesText};
+
+// Bytes.
+fn put(out: &mut [u8], at: usize, bytes: &[u8]) -> usize
+    requires { ⌜ at + length (now bytes) ≤ length (now out) ⌝ }
+    ensures { λ r. ⌜ Written (now (bytes .entry)) (now (out .entry)) at r (now (out .exit)) ⌝ }
+{
+    for i in 0..bytes.len() {
+        out[at + i] = bytes[i];
+    }
+    at + bytes.len()
+}
+
+// A number in decimal.
+fn put_decimal(out: &mut [u8], at: usize, n: u8) -> usize
+    requires { ⌜ at + length (decimal n) ≤ length (now out) ⌝ }
+    ensures { λ r. ⌜ Written (decimal n) (now (out .entry)) at r (now (out .exit)) ⌝ }
+{
+    if n < 10 {
+        out[at] = b'0' + n;
+        return at + 1;
+    }
+    if n < 100 {
+        out[at] = b'0' + n / 10;
+        out[at + 1] = b'0' + n % 10;
+        return at + 2;
+    }
+    out[at] = b'0' + n / 100;
+    out[at + 1] = b'0' + n / 10 % 10;
+    out[at + 2] = b'0' + n % 10;
+    at + 3
+}
+
+// A line of words and a number.
+pub fn put_count(out: &mut [u8], at: usize, words: &[u8], n: u8) -> usize
+    requires { ⌜ at + length (countText (now words) n) ≤ length (now out) ⌝ }
+    ensures { λ r. ⌜ Written (countText (now (words .entry)) n) (now (out .entry)) at r (now (out .exit)) ⌝ }
+{
+    let number = put(out, at, words);
+    let end = put_decimal(out, number, n);
+    put(out, end, b"\n")
+}
+
+// An entry of a group: user/role, behind a blank.
+fn put_entry(out: &mut [u8], at: usize, user: u8, role: u8) -> usize
+    requires { ⌜ at + length (entryText user role) ≤ length (now out) ⌝ }
+    ensures { λ r. ⌜ Written (entryText user role) (now (out .entry)) at r (now (out .exit)) ⌝ }
+{
+    let first = put(out, at, b" ");
+    let slash = put_decimal(out, first, user);
+    let second = put(out, slash, b"/");
+    put_decimal(out, second, role)
+}
+
+// The entries of a group in the order in which they stand.
+fn put_entries(out: &mut [u8], at: usize, group: &[u8]) -> usize
+    requires { ⌜ at + length (standingText (now group)) ≤ length (now out) ⌝ }
+    ensures { λ r. ⌜ Written (standingText (now (group .entry))) (now (out .entry)) at r (now (out .exit)) ⌝ }
+{
+    let mut next = at;
+    for i in 0..group.len() / 2 {
+        next = put_entry(out, next, group[2 * i], group[2 * i + 1]);
+    }
+    next
+}
+
+// The line of permission p with k approvers; the group stands by rising user.
+fn put_line(out: &mut [u8], at: usize, p: u8, k: u8, group: &[u8]) -> usize
+    requires { ⌜ Rising (now group) × (at + length (lineText p k (now group)) ≤ length (now out)) ⌝ }
+    ensures { λ r. ⌜ Written (lineText p k (now (group .entry))) (now (out .entry)) at r (now (out .exit)) ⌝ }
+{
+    let number = put(out, at, b"permission ");
+    let colon = put_decimal(out, number, p);
+    let count = put(out, colon, b": ");
+    let entries = put_decimal(out, count, k);
+    let end = put_entries(out, entries, group);
+    put(out, end, b"\n")
+}
+
+// The lines of n parts of 13 bytes, from byte 0 on.
+pub fn put_lines(out: &mut [u8], parts: &[u8], n: u8) -> usize
+    requires { ⌜ Parts (now parts) n × (length (linesText (now parts) n) ≤ length (now out)) ⌝ }
+    ensures { λ r. ⌜ Written (linesText (now (parts .entry)) n) (now (out .entry)) 0 r (now (out .exit)) ⌝ }
+{
+    let mut next: usize = 0;
+    for p in 0..n {
+        let part = 13 * (p as usize);
+        let k = parts[part];
+        let end = part + 1 + 2 * (k as usize);
+        next = put_line(out, next, p, k, &parts[part + 1..end]);
+    }
+    next
+}
