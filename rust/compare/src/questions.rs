@@ -107,7 +107,7 @@ pub fn any_group(random: &mut Random, question: &Question) -> Vec<u8> {
 }
 
 /// Different users, each in a role held that has weight, if there are any.
-fn sound_group(random: &mut Random, question: &Question) -> Vec<[u8; 2]> {
+pub(crate) fn sound_group(random: &mut Random, question: &Question) -> Vec<[u8; 2]> {
     let mut users: Vec<u8> = (0..question.base.users.len() as u8).collect();
     random.shuffle(&mut users);
     let count = 1 + random.below(6);

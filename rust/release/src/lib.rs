@@ -15,6 +15,16 @@ mod raw {
             group_len: usize,
         ) -> u32;
 
+        pub fn release_report(
+            base: *const u8,
+            base_len: usize,
+            minute: u32,
+            day: u32,
+            zone: u32,
+            out: *mut u8,
+            out_len: usize,
+        ) -> u64;
+
         pub fn release_conflicts(
             base: *const u8,
             base_len: usize,
@@ -74,6 +84,28 @@ pub fn decide(base: &[u8], permission: u32, at: Context, group: &[u8]) -> u32 {
             group.len(),
         )
     }
+}
+
+/// Writes 13 bytes for each permission into the buffer's first bytes: the
+/// number of a smallest group's entries, the group and 255 in every byte left.
+/// The answer is 0 and the number of permissions that have a group, or the
+/// first of refusals 1 to 9, 11 and 19 that applies and 0. No refusal writes.
+pub fn report(base: &[u8], at: Context, out: &mut [u8]) -> Answer {
+    // SAFETY: the pointers and lengths are those of two slices that don't
+    // overlap. The library only reads the first and writes the second within
+    // its length, and only during the call.
+    let number = unsafe {
+        raw::release_report(
+            base.as_ptr(),
+            base.len(),
+            at.minute,
+            at.day,
+            at.zone,
+            out.as_mut_ptr(),
+            out.len(),
+        )
+    };
+    Answer::from_number(number)
 }
 
 /// Writes the list of conflicts, 3 bytes each, into the buffer's first bytes.

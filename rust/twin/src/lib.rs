@@ -1,0 +1,166 @@
+//! The report as the library computes it, in plain Rust: the same tables, the
+//! same steps. For measuring what a report costs, and which bases cost most.
+
+pub mod back;
+pub mod conditions;
+pub mod counts;
+pub mod levels;
+mod operators;
+pub mod plan;
+pub mod search;
+pub mod tables;
+pub mod weights;
+pub mod worst;
+
+use model::{Answer, Context};
+
+use search::{search, Wanted};
+
+/// The most entries of a group.
+pub const MOST: usize = 6;
+
+/// Bytes of a permission's record: k and six entries.
+pub const RECORD: usize = 1 + 2 * MOST;
+
+/// Writes a record for each permission: the number of a smallest group's
+/// entries and the group, by rising user. Later bytes keep their contents.
+/// The answer carries how many permissions have a group. No refusal writes.
+pub fn report(base: &[u8], at: Context, out: &mut [u8]) -> Answer {
+    let refusal = refusal_of(base, at, out.len());
+    if refusal != 0 {
+        return Answer { refusal, count: 0 };
+    }
+    let setting = weights::setting(base, at);
+    let sets = weights::role_sets(base);
+    let mut count = 0;
+    let parts = out.chunks_exact_mut(RECORD);
+    for (permission, part) in parts.take(tables::permission_count(base)).enumerate() {
+        let permission = permission as u8;
+        let found = search(Wanted {
+            k: tables::part(base, tables::CLAUSES),
+            permission,
+            sets: &sets,
+            w: weights::role_weights(base, &setting, permission),
+        });
+        part[0] = found.size as u8;
+        part[1..].copy_from_slice(&found.group);
+        count += u32::from(found.size > 0);
+    }
+    Answer { refusal, count }
+}
+
+/// 0, or the first of refusals 1 to 9, 11 and 19 that applies.
+fn refusal_of(base: &[u8], at: Context, room: usize) -> u8 {
+    match model::check(base) {
+        0 if !at.in_range() => 11,
+        0 if room < RECORD * tables::permission_count(base) => 19,
+        refusal => refusal,
+    }
+}
+
+#[cfg(test)]
+mod tests {
+    use super::*;
+    use plan::{Condition, Plan};
+
+    const AT: Context = Context {
+        minute: 600,
+        day: 3,
+        zone: 1,
+    };
+
+    /// Numbers that look random and repeat from run to run.
+    struct Draws(u64);
+
+    impl Draws {
+        fn below(&mut self, end: usize) -> usize {
+            self.0 ^= self.0 << 13;
+            self.0 ^= self.0 >> 7;
+            self.0 ^= self.0 << 17;
+            (self.0 >> 16) as usize % end
+        }
+
+        fn byte(&mut self, first: u8, last: u8) -> u8 {
+            first + self.below(usize::from(last - first) + 1) as u8
+        }
+    }
+
+    fn random_plan(draws: &mut Draws) -> Plan {
+        let few_roles = |draws: &mut Draws| 1 << draws.byte(0, 7) | 1 << draws.byte(0, 7);
+        let edge = |draws: &mut Draws| {
+            let junior = draws.byte(1, 7);
+            (draws.byte(0, junior - 1), junior)
+        };
+        Plan {
+            permissions: 4,
+            users: (0..draws.below(25)).map(|_| few_roles(draws)).collect(),
+            hierarchy: (0..draws.below(12)).map(|_| edge(draws)).collect(),
+            policies: (0..draws.below(40))
+                .map(|i| {
+                    (
+                        draws.byte(0, 7),
+                        i as u8 % 4,
+                        draws.byte(1, 5),
+                        draws.byte(0, 1),
+                    )
+                })
+                .collect(),
+            clauses: (0..draws.below(8))
+                .map(|i| (i as u8 % 4, vec![condition(draws), condition(draws)]))
+                .collect(),
+        }
+    }
+
+    fn condition(draws: &mut Draws) -> Condition {
+        match draws.byte(0, 3) {
+            0 => (0, draws.byte(0, 5), draws.byte(1, 6)),
+            1 => (1, draws.byte(0, 5), draws.byte(1, 60)),
+            2 => (2, draws.byte(0, 5), draws.byte(1, 6)),
+            _ => (3, 6, 1 << draws.byte(0, 7)),
+        }
+    }
+
+    fn rises(group: &[u8]) -> bool {
+        let users: Vec<u8> = group.chunks_exact(2).map(|entry| entry[0]).collect();
+        users.windows(2).all(|pair| pair[0] < pair[1])
+    }
+
+    #[test]
+    fn a_smallest_group_is_shown_for_each_permission() {
+        let mut draws = Draws(7);
+        let mut seen = [0; 1 + MOST];
+        for _ in 0..300 {
+            let base = random_plan(&mut draws).bytes();
+            let mut out = [7; 4 * RECORD + 1];
+            let answer = report(&base, AT, &mut out);
+            let mut count = 0;
+            for (permission, record) in (0..).zip(out.chunks_exact(RECORD)) {
+                let k = record[0];
+                let (group, left) = record[1..].split_at(2 * usize::from(k));
+                assert_eq!(k, model::smallest_by_reach(&base, AT, permission));
+                assert!(k == 0 || model::decide(&base, permission, AT, group) == 0);
+                assert!(rises(group) && left.iter().all(|&byte| byte == 255));
+                seen[usize::from(k)] += 1;
+                count += u32::from(k > 0);
+            }
+            assert_eq!((answer.refusal, answer.count), (0, count));
+            assert_eq!(out[4 * RECORD], 7);
+        }
+        assert!(seen.iter().all(|&times| times > 0), "{seen:?}");
+    }
+
+    #[test]
+    fn refusals_come_in_order_and_write_nothing() {
+        let late = Context { minute: 1440, ..AT };
+        let base = random_plan(&mut Draws(7)).bytes();
+        let refused = |base: &[u8], at: Context, room: usize| {
+            let mut out = vec![7; room];
+            let answer = report(base, at, &mut out);
+            assert_eq!((answer.count, out), (0, vec![7; room]));
+            answer.refusal
+        };
+        assert_eq!(refused(&base[1..], late, 0), 3);
+        assert_eq!(refused(&base, late, 0), 11);
+        assert_eq!(refused(&base, AT, 4 * RECORD - 1), 19);
+    }
+}
