@@ -22,11 +22,6 @@ use Rattle.reader.specs.Tables.{users, policies, exclusions, tableOf, recordCou
 use Rattle.conflicts.specs.Conflicts.{pairsBelow, conflicts, conflictCount}
 use Rattle.conflicts.specs.Rows.{inside, inRow, Rows, rowRecords, rowsRecords}
 
--- two lists are written one behind the other
-pub sets-append : (l : List ℕ) (i : ℕ) (xs ys : List ℕ) → sets l i (xs ++ ys) ≡ sets (sets l i xs) (i + length xs) ys
-sets-append l i [] ys = rw add-zero
-sets-append l i (x ∷ xs) ys = sets-append (set l i x) (suc i) xs ys ∙ ap (λ k. sets (sets (set l i x) (suc i) xs) k ys) (omega arith)
-
 -- three stores side by side
 pub sets-three : (l : List ℕ) (i x y z : ℕ) → set (set (set l i x) (i + 1) y) (i + 2) z ≡ sets l i (x ∷ y ∷ z ∷ [])
 sets-three l i x y z = rw (add-one, add-two)

@@ -28,15 +28,9 @@ fn length_of(c: &[u8], i: usize) -> usize
     ensures { λ r. ⌜ (r ≡ contextLength (now (c .entry)) i) × (r ≤ 3) ⌝ }
 {
     if i < c.len() / 16 {
-        return wide(c[16 * i + 1]);
+        return bytes::wide(c[16 * i + 1]);
     }
     0
-}
-
-fn wide(x: u8) -> usize
-    ensures { λ r. ⌜ (r ≡ x) × (r < 256) ⌝ }
-{
-    x as usize
 }
 
 fn wide32(x: u16) -> u32

@@ -1,6 +1,7 @@
 // The conflicts as rows of bits, a row for each kind and first.
 use crate::covers;
 use crate::relations;
+use reader::bytes;
 ghost use mathlib.Core.Path.{_≡_};
 ghost use mathlib.Core.Bool.{false};
 ghost use mathlib.Core.Logic.{_⊎_};
@@ -123,16 +124,10 @@ fn holds_both(users: &[u8], roles: u8, x: &[u8], u: usize, e: usize) -> bool
     if x[3 * e] != 0 {
         return false;
     }
-    if !reader::codes::held_by(users, roles, u, wide(x[3 * e + 1])) {
+    if !reader::codes::held_by(users, roles, u, bytes::wide(x[3 * e + 1])) {
         return false;
     }
-    reader::codes::held_by(users, roles, u, wide(x[3 * e + 2]))
-}
-
-fn wide(x: u8) -> usize
-    ensures { λ r. ⌜ r ≡ x ⌝ }
-{
-    x as usize
+    reader::codes::held_by(users, roles, u, bytes::wide(x[3 * e + 2]))
 }
 
 // The row of kind 3 for user u.

@@ -1,4 +1,5 @@
 // A group's entries and its attributes: refusals 12 to 16.
+use reader::bytes;
 ghost use mathlib.Core.Path.{_≡_};
 ghost use Prim.Native.Nat.{ℕ, _+_, _*_, _/_, _≤_, _<_};
 ghost use lib.ListN.{length, getD};
@@ -23,7 +24,7 @@ pub fn some_unknown(g: &[u8], users: usize, roles: u8) -> bool
     ensures { λ r. ⌜ r ≡ someUnknown users roles (now (g .entry)) ⌝ }
 {
     for i in 0..g.len() / 2 {
-        if users <= wide(g[2 * i]) {
+        if users <= bytes::wide(g[2 * i]) {
             return true;
         }
         if roles <= g[2 * i + 1] {
@@ -31,12 +32,6 @@ pub fn some_unknown(g: &[u8], users: usize, roles: u8) -> bool
         }
     }
     false
-}
-
-fn wide(x: u8) -> usize
-    ensures { λ r. ⌜ (r ≡ x) × (r < 256) ⌝ }
-{
-    x as usize
 }
 
 fn stands_before(g: &[u8], i: usize) -> bool
@@ -69,7 +64,12 @@ pub fn some_ineligible(g: &[u8], users: &[u8], roles: u8) -> bool
     ensures { λ r. ⌜ r ≡ someIneligible (mayActBy roles (now (users .entry))) (now (g .entry)) ⌝ }
 {
     for i in 0..g.len() / 2 {
-        if !weights::acting::may_act(users, roles, wide(g[2 * i]), wide(g[2 * i + 1])) {
+        if !weights::acting::may_act(
+            users,
+            roles,
+            bytes::wide(g[2 * i]),
+            bytes::wide(g[2 * i + 1]),
+        ) {
             return true;
         }
     }
@@ -82,7 +82,7 @@ pub fn some_weightless(g: &[u8], w: [u8; 8]) -> bool
     ensures { λ r. ⌜ r ≡ someWeightless (λ k. getD w k 0) (now (g .entry)) ⌝ }
 {
     for i in 0..g.len() / 2 {
-        if w[wide(g[2 * i + 1])] == 0 {
+        if w[bytes::wide(g[2 * i + 1])] == 0 {
             return true;
         }
     }
@@ -104,7 +104,7 @@ pub fn sum_of(g: &[u8], w: [u8; 8]) -> u32
 {
     let mut sum: u32 = 0;
     for i in 0..g.len() / 2 {
-        sum = sum + w[wide(g[2 * i + 1])] as u32;
+        sum = sum + w[bytes::wide(g[2 * i + 1])] as u32;
     }
     sum
 }

@@ -1,13 +1,13 @@
--- Laws of lists joined below n.
+-- Laws of lists joined below n, and of stores into a list.
 use Prim.Native.Nat.{ℕ, zero, suc, _+_, _<_, _≤_}
-use mathlib.Core.Path.{_≡_, refl}
+use mathlib.Core.Path.{_≡_, refl, ap, _∙_}
 use mathlib.Core.Logic.{⊎-elim}
-use mathlib.Core.List.{List, [], _++_, append-assoc, append-nil}
+use mathlib.Core.List.{List, [], _∷_, _++_, append-assoc, append-nil}
 use native.Mathlib.Numerals.{add-one}
 use native.Mathlib.Nat.{add-zero, add-suc, eq-or-lt-of-le, le-of-suc-le-suc}
 use native.Mathlib.Omega.{arith}
 use lib.ListN.{length, getD, set, length-append}
-use lib.Seq.{getD-set-same, getD-set-other}
+use lib.Seq.{sets, getD-set-same, getD-set-other}
 use lib.Dec.{eqb}
 use borrow.Author.Tests.{eqb-true, eqb-false}
 use Rattle.folds.proofs.Bools.{met-or-not}
@@ -56,3 +56,8 @@ stored w i v Q l inv e k m =
     ⊎-elim (λ t. let s : k ≡ i = eqb-true _ _ t in rw (s, getD-set-same w i v 0 l) e)
     (λ t. let d : k ≡ i → ⊥ = eqb-false k i t in rw (getD-set-other w i k v 0 d) (inv k (omega arith)))
     (met-or-not (eqb k i))
+
+-- two lists are written one behind the other
+pub sets-append : (l : List ℕ) (i : ℕ) (xs ys : List ℕ) → sets l i (xs ++ ys) ≡ sets (sets l i xs) (i + length xs) ys
+sets-append l i [] ys = rw add-zero
+sets-append l i (x ∷ xs) ys = sets-append (set l i x) (suc i) xs ys ∙ ap (λ k. sets (sets (set l i x) (suc i) xs) k ys) (omega arith)

@@ -4,6 +4,13 @@ ghost use Prim.Native.Nat.{_+_, _≤_, _<_};
 ghost use lib.ListN.{length};
 ghost use Rattle.reader.specs.Bytes.{word16, word32};
 
+// Inner: a byte as an index.
+pub fn wide(x: u8) -> usize
+    ensures { λ r. ⌜ (r ≡ x) × (r < 256) ⌝ }
+{
+    x as usize
+}
+
 fn wide16(x: u8) -> u16
     ensures { λ r. ⌜ (r ≡ x) × (r < 256) ⌝ }
 {

@@ -2,7 +2,6 @@ pub mod Stores
 pub mod Decimal
 pub mod Sizes
 pub mod Order
-pub mod Parts
 pub mod Shown
 pub mod Answered
 pub mod Examples

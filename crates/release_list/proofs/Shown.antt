@@ -27,7 +27,7 @@ use Rattle.report.specs.Demand.{numberFor, groupFor}
 use Rattle.release_list.specs.Text.{lineText}
 use Rattle.release_list.specs.Writing.{Rising, Parts, lineAt, linesText}
 use Rattle.release_list.proofs.Order.{line-le}
-use Rattle.release_list.proofs.Parts.{number-at, group-at}
+use Rattle.report.proofs.Standing.{number-at, group-at}
 
 -- a report that isn't refused is on an accepted base
 pub base-accepted : (b : List ℕ) (at : Context) (n : ℕ) → reportRefusal b at n ≡ 0 → refusalOf b ≡ 0

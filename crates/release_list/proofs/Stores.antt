@@ -1,5 +1,5 @@
 -- Texts written one behind the other.
-use Prim.Native.Nat.{ℕ, suc, _+_, _<_, _≤_}
+use Prim.Native.Nat.{ℕ, _+_, _<_, _≤_}
 use mathlib.Core.Path.{_≡_, refl, sym, ap, _∙_}
 use mathlib.Core.List.{List, [], _∷_, _++_}
 use native.Mathlib.Numerals.{add-one}
@@ -8,14 +8,9 @@ use native.Mathlib.Omega.{arith}
 use lib.ListN.{length, getD, set, take, length-append}
 use lib.Seq.{sets, length-sets, take-suc, length-take-le}
 use Rattle.folds.specs.Below.{joinBelow}
-use Rattle.folds.proofs.Lists.{join-none, join-more, join-length}
+use Rattle.folds.proofs.Lists.{join-none, join-more, join-length, sets-append}
 use Rattle.folds.proofs.Numbers.{sum-le-sum}
 use Rattle.release_list.specs.Writing.{Written}
-
--- two lists are written one behind the other
-sets-append : (l : List ℕ) (i : ℕ) (xs ys : List ℕ) → sets l i (xs ++ ys) ≡ sets (sets l i xs) (i + length xs) ys
-sets-append l i [] ys = rw add-zero
-sets-append l i (x ∷ xs) ys = sets-append (set l i x) (suc i) xs ys ∙ ap (λ k. sets (sets (set l i x) (suc i) xs) k ys) (omega arith)
 
 -- one byte more of a list
 pub one-more : (l : List ℕ) (at : ℕ) (xs : List ℕ) (i : ℕ) → i < length xs →

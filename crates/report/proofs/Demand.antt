@@ -1,17 +1,15 @@
 -- Demand 3 follows from the report's promise.
 use Prim.Native.Nat.{ℕ, zero, suc, _+_, _-_, _*_, _<_, _≤_}
-use mathlib.Core.Bool.{Bool, true, false}
+use mathlib.Core.Bool.{true}
 use mathlib.Core.Path.{_≡_, refl, sym, ap, _∙_}
 use mathlib.Core.Logic.{_↔_, ⊎-elim}
-use mathlib.Core.List.{List, [], _∷_, _++_, append-assoc}
+use mathlib.Core.List.{List, _++_}
 use native.Mathlib.Omega.{arith}
-use native.Mathlib.Nat.{eq-zero-or-pos, lt-irrefl, le-of-lt, lt-of-lt-of-le}
+use native.Mathlib.Nat.{eq-zero-or-pos, lt-irrefl}
 use borrow.Author.Tests.{eqb-true, eq-eqb, ltb-true, lt-ltb}
 use lib.Dec.{ltb, eqb}
-use lib.ListN.{length, getD, take, drop, replicate, length-append}
-use lib.Seq.{take-at, drop-at, getD-at, append-snoc}
+use lib.ListN.{length, drop}
 use Rattle.folds.specs.Below.{joinBelow, countBelow}
-use Rattle.folds.proofs.Lists.{join-more, join-split}
 use Rattle.reader.specs.declared.Answer.{Answer}
 use Rattle.reader.specs.Tables.{permissionCount}
 use Rattle.reader.specs.Rules.{refusalOf}
@@ -24,7 +22,8 @@ use Rattle.report.specs.Report.{reportRefusal, releasable, reportAnswer,
 use Rattle.report.specs.Demand.{numberFor, groupFor, userNum, SomeGranted, Demand3, Demanded}
 use Rattle.report.proofs.Least.{of-decision, smallest-shown, smallest-least}
 use Rattle.report.proofs.Answers.{not-refused}
-use Rattle.report.proofs.Filling.{parts, parts-length}
+use Rattle.report.proofs.Filling.{at-most-six}
+use Rattle.report.proofs.Standing.{number-at, group-at}
 use Rattle.report.proofs.Users.{granted-users}
 
 module _ (b : List ℕ) (at : Context) where
@@ -43,52 +42,6 @@ module _ (b : List ℕ) (at : Context) where
     λ none. ⊎-elim (λ z. z) (λ l. absurd (none (some-of p l))) (eq-zero-or-pos (smallestOf b at p)),
   )
 
-  -- a permission's part within all the parts
-  part-at : (chosen : ℕ → List ℕ) (n p : ℕ) → p < n → (later : List ℕ) × (parts b at chosen n ≡ parts b at chosen p ++ (partOf (smallestOf b at p) (chosen p) ++ later))
-  part-at chosen n p l =
-      let f : ℕ → List ℕ = λ q. partOf (smallestOf b at q) (chosen q) in
-      let d = n - p - 1 in
-      let e : n ≡ p + 1 + d = omega arith in (
-        joinBelow d (λ i. f (p + 1 + i)),
-        ap (λ (m : ℕ). joinBelow m f) e ∙ join-split f (p + 1) d ∙ ap (λ (x : List ℕ). x ++ joinBelow d (λ i. f (p + 1 + i))) (join-more f p) ∙ append-assoc (joinBelow p f) (f p) (joinBelow d (λ i. f (p + 1 + i))),
-      )
-
-  -- the number and the group as they stand in the buffer
-  module _ (chosen : ℕ → List ℕ) (shown : (p : ℕ) → p < permissionCount b → ShownFor b at p (chosen p)) (rest : List ℕ) where
-    abbrev whole : List ℕ
-    whole = parts b at chosen (permissionCount b) ++ rest
-
-    module _ (p : ℕ) (there : p < permissionCount b) where
-      before : length (parts b at chosen p) ≡ 13 * p
-      before = parts-length b at chosen p (λ q l. shown q (lt-of-lt-of-le l (le-of-lt there)))
-
-      split-whole : (later : List ℕ) × (whole ≡ parts b at chosen p ++ (smallestOf b at p ∷ (chosen p ++ later)))
-      split-whole =
-          let (more, e) = part-at chosen (permissionCount b) p there in
-          let k = smallestOf b at p in
-          let fill = replicate {A = ℕ} (12 - 2 * k) 255 in (
-            fill ++ (more ++ rest),
-            ap (λ (x : List ℕ). x ++ rest) e
-                ∙ append-assoc (parts b at chosen p) (partOf k (chosen p) ++ more) rest
-                ∙ ap (λ (x : List ℕ). parts b at chosen p ++ x) (append-assoc (partOf k (chosen p)) more rest ∙ ap (λ (x : List ℕ). k ∷ x) (append-assoc (chosen p) fill (more ++ rest))),
-          )
-
-      number-is : numberFor whole p ≡ smallestOf b at p
-      number-is =
-          let (later, e) = split-whole in
-          rw e (getD-at (parts b at chosen p) (smallestOf b at p) (chosen p ++ later) 0 (13 * p) before)
-
-      group-is : groupFor whole p ≡ chosen p
-      group-is =
-          let (later, e) = split-whole in
-          let k = smallestOf b at p in
-          let done = parts b at chosen p in
-          let len : length (done ++ (k ∷ [])) ≡ 13 * p + 1 = omega (arith, length-append done (k ∷ []), before) in
-          let dropped : drop (13 * p + 1) whole ≡ chosen p ++ later =
-          ap (λ (x : List ℕ). drop (13 * p + 1) x) (e ∙ sym (append-snoc done k (chosen p ++ later))) ∙ drop-at (done ++ (k ∷ [])) (chosen p ++ later) (13 * p + 1) len in
-          ap (λ (m : ℕ). take (2 * m) (drop (13 * p + 1) whole)) number-is ∙ ap (λ (x : List ℕ). take (2 * k) x) dropped
-          ∙ take-at (chosen p) later (2 * k) (shown p there .number)
-
   -- demand 3
   pub demand-3 : (out after : List ℕ) (r : Answer) → Reported b at out after r → Demanded b at out after r
   unfolding reportAnswer reportBytes releasable
@@ -96,10 +49,10 @@ module _ (b : List ℕ) (at : Context) where
       let e = not-refused b at (length out) ok in-range fits in
       let shown = d .shown e in
       let rest = drop (13 * permissionCount b) out in
-      let is : after ≡ parts b at (d .chosen) (permissionCount b) ++ rest = d .bytes ∙ rw e in
+      let is : after ≡ joinBelow (permissionCount b) (λ p. partOf (smallestOf b at p) (d .chosen p)) ++ rest = d .bytes ∙ rw e in
       let answer : r ≡ record { refusal = 0; count = releasable b at } = d .answer ∙ rw e in
-      let number : (p : ℕ) → p < permissionCount b → numberFor after p ≡ smallestOf b at p = λ p l. rw is (number-is (d .chosen) shown rest p l) in
-      let group : (p : ℕ) → p < permissionCount b → groupFor after p ≡ d .chosen p = λ p l. rw is (group-is (d .chosen) shown rest p l) in
+      let number : (p : ℕ) → p < permissionCount b → numberFor after p ≡ smallestOf b at p = λ p l. rw is (number-at (smallestOf b at) (d .chosen) (permissionCount b) rest (λ q m. at-most-six b at q) (λ q m. shown q m .number) p l) in
+      let group : (p : ℕ) → p < permissionCount b → groupFor after p ≡ d .chosen p = λ p l. rw is (group-at (smallestOf b at) (d .chosen) (permissionCount b) rest (λ q m. at-most-six b at q) (λ q m. shown q m .number) p l) in
       record {
         done = ap (λ (a : Answer). a .refusal) answer;
         zero = λ p l. rw (number p l) (zero-of p);

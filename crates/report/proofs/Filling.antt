@@ -1,5 +1,5 @@
 -- The parts of the permissions, one behind the other in the buffer.
-use Prim.Native.Nat.{ℕ, zero, suc, _+_, _-_, _*_, _<_, _≤_}
+use Prim.Native.Nat.{ℕ, _+_, _-_, _*_, _<_, _≤_}
 use mathlib.Core.Bool.{Bool, true, false, cond}
 use mathlib.Core.Path.{_≡_, refl, sym, ap, _∙_}
 use mathlib.Core.Logic.{_⊎_, ⊎-elim}
@@ -10,41 +10,33 @@ use native.Mathlib.Numerals.{add-one}
 use borrow.Author.Tests.{eq-eqb, ne-eqb}
 use borrow.Rule.Slice.PartMut.{putMid, postOf, post-is}
 use lib.Dec.{ltb, eqb}
-use lib.ListN.{length, getD, take, drop, replicate, length-append, length-replicate}
+use lib.ListN.{length, getD, take, drop}
 use lib.Seq.{drop-drop, take-at, drop-at}
-use Rattle.folds.specs.Below.{joinBelow, sumBelow, countBelow}
-use Rattle.folds.proofs.Lists.{join-none, join-more, join-length, join-same}
-use Rattle.folds.proofs.Numbers.{sum-same, sum-none, sum-step, count-more}
+use Rattle.folds.specs.Below.{joinBelow, countBelow}
+use Rattle.folds.proofs.Lists.{join-none, join-more, join-same}
+use Rattle.folds.proofs.Numbers.{count-more}
 use Rattle.weights.specs.declared.Context.{Context}
 use Rattle.decision.specs.Decision.{decisionOf}
 use Rattle.report.specs.Smallest.{smallestOf}
 use Rattle.report.specs.Report.{ShownFor, partOf}
 use Rattle.report.specs.Parts.{PartFor, Filled}
 use Rattle.report.proofs.Least.{smallest-six}
-
--- 13 bytes each
-sum-13 : (n : ℕ) → sumBelow n (λ i. 13) ≡ 13 * n
-sum-13 zero = sum-none (λ i. 13)
-sum-13 (suc n) = sum-step (λ i. 13) n ∙ (let h = sum-13 n in omega arith)
+use Rattle.report.proofs.Standing.{part-length, parts-length}
 
 module _ (b : List ℕ) (at : Context) where
-  -- a part has 13 bytes
-  pub part-13 : (p : ℕ) (g : List ℕ) → ShownFor b at p g → length (partOf (smallestOf b at p) g) ≡ 13
+  pub at-most-six : (p : ℕ) → smallestOf b at p ≤ 6
   unfolding smallestOf
-  part-13 p g s =
-      let six = smallest-six (λ g. eqb (decisionOf b at p g) 0) in
-      let n = s .number in
-      omega (arith, length-append g (replicate {A = ℕ} (12 - 2 * smallestOf b at p) 255), length-replicate {A = ℕ} (12 - 2 * smallestOf b at p) 255)
+  at-most-six p = smallest-six (λ g. eqb (decisionOf b at p g) 0)
+
+  pub part-13 : (p : ℕ) (g : List ℕ) → ShownFor b at p g → length (partOf (smallestOf b at p) g) ≡ 13
+  part-13 p g s = part-length (smallestOf b at p) g (at-most-six p) (s .number)
 
   -- the parts of n permissions
-  abbrev pub parts : (ℕ → List ℕ) → ℕ → List ℕ
+  abbrev parts : (ℕ → List ℕ) → ℕ → List ℕ
   parts chosen n = joinBelow n (λ p. partOf (smallestOf b at p) (chosen p))
 
-  pub parts-length : (chosen : ℕ → List ℕ) (n : ℕ) → ((p : ℕ) → p < n → ShownFor b at p (chosen p)) → length (parts chosen n) ≡ 13 * n
-  parts-length chosen n shown =
-      join-length (λ p. partOf (smallestOf b at p) (chosen p)) n
-      ∙ sum-same (λ p. length (partOf (smallestOf b at p) (chosen p))) (λ p. 13) n (λ p l. part-13 p (chosen p) (shown p l))
-      ∙ sum-13 n
+  done-length : (chosen : ℕ → List ℕ) (n : ℕ) → ((p : ℕ) → p < n → ShownFor b at p (chosen p)) → length (parts chosen n) ≡ 13 * n
+  done-length chosen n shown = parts-length (λ p. partOf (smallestOf b at p) (chosen p)) n (λ p l. part-13 p (chosen p) (shown p l))
 
   pub filled-none : (out : List ℕ) → Filled b at 0 out out
   filled-none out = record { chosen = λ p. []; shown = λ p l. absurd (not-suc-le-zero l); bytes = rw (join-none (λ p. partOf (smallestOf b at p) [])) }
@@ -72,7 +64,7 @@ module _ (b : List ℕ) (at : Context) where
         let e : ℕ = 13 * p + 13 in
         let next : 13 * (p + 1) ≡ e = omega arith in
         let done = parts (f .chosen) p in
-        let len : length done ≡ a = parts-length (f .chosen) p (f .shown) in
+        let len : length done ≡ a = done-length (f .chosen) p (f .shown) in
         let front : take a out ≡ done = rw (f .bytes) (take-at done (drop a was) a len) in
         let back : drop a out ≡ drop a was = rw (f .bytes) (drop-at done (drop a was) a len) in
         let post : postOf a (e - a) out ≡ drop e was = post-is a e out (omega arith) ∙ sym (drop-drop 13 a out) ∙ ap (λ (l : List ℕ). drop 13 l) back ∙ drop-drop 13 a was in

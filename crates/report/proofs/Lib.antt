@@ -10,6 +10,7 @@ pub mod Own
 pub mod Part
 pub mod Seek
 pub mod Shown
+pub mod Standing
 pub mod Step
 pub mod Stepping
 pub mod Turned

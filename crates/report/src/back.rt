@@ -1,5 +1,6 @@
 // From a level's cell that meets the condition back to its entries.
 use crate::levels;
+use reader::bytes;
 ghost use mathlib.Core.Path.{_≡_};
 ghost use Prim.Native.Nat.{ℕ, _≤_, _<_};
 ghost use lib.ListN.{length};
@@ -37,7 +38,7 @@ fn ends_at(sets: &[u8], t: &[u8], c: usize, r: u8, end: usize) -> bool
     requires { ⌜ (c < length (now t)) × (r < 8) × (length (now sets) ≤ 24) ⌝ }
     ensures { λ b. ⌜ EndsAt (now (sets .entry)) (now (t .entry)) c r end b ⌝ }
 {
-    let from = levels::wide(t[c]);
+    let from = bytes::wide(t[c]);
     if sets.len() < from {
         return false;
     }
@@ -53,7 +54,7 @@ fn back_in(sets: &[u8], w: [u8; 8], t: &[u8], set: u8, sum: usize, end: usize, r
     requires { ⌜ (length (now sets) ≤ 24) × (length (now t) ≡ 61696) × (sum ≤ 240) × (r < 8) ⌝ }
     ensures { λ c. ⌜ BackIn (now (sets .entry)) w (now (t .entry)) (place set sum) end r c ⌝ }
 {
-    let x = levels::wide(w[r as usize]);
+    let x = bytes::wide(w[r as usize]);
     if x == 0 {
         return 61696;
     }

@@ -1,4 +1,5 @@
 // Levels: for n entries by rising user, each set of roles and sum with the least end, one past the last user.
+use reader::bytes;
 ghost use mathlib.Core.Path.{_≡_};
 ghost use Prim.Native.Nat.{ℕ, _+_, _*_, _/_, _≤_, _<_};
 ghost use lib.ListN.{length, getD, replicate};
@@ -29,17 +30,11 @@ fn relax(t: &mut [u8], at: usize, end: u8)
     }
 }
 
-pub fn wide(x: u8) -> usize
-    ensures { λ r. ⌜ (r ≡ x) × (r < 256) ⌝ }
-{
-    x as usize
-}
-
 pub fn place_of(set: u8, sum: usize) -> usize
     requires { ⌜ sum ≤ 240 ⌝ }
     ensures { λ r. ⌜ (r ≡ place set sum) × (r < 61696) ⌝ }
 {
-    sum * 256 + wide(set)
+    sum * 256 + bytes::wide(set)
 }
 
 // One entry more from a set, a sum and an end, in role r, in the next level's table.
@@ -55,7 +50,7 @@ fn grow_in(sets: &[u8], w: [u8; 8], set: u8, sum: usize, end: usize, r: u8, next
     if sets.len() <= u {
         return;
     }
-    let at = place_of(set | weights::sets::role_bit(r), sum + wide(x));
+    let at = place_of(set | weights::sets::role_bit(r), sum + bytes::wide(x));
     relax(next, at, (u + 1) as u8);
 }
 
@@ -78,7 +73,14 @@ pub fn advance(sets: &[u8], w: [u8; 8], top: usize, t: &[u8], next: &mut [u8])
     for cell in 0..256 * (top + 1) {
         let end = t[cell];
         if end != 255 {
-            grow(sets, w, (cell % 256) as u8, cell / 256, wide(end), next);
+            grow(
+                sets,
+                w,
+                (cell % 256) as u8,
+                cell / 256,
+                bytes::wide(end),
+                next,
+            );
         }
     }
 }

@@ -1,5 +1,6 @@
 // The release report: the smallest group for each permission.
 use reader::Answer;
+use reader::bytes;
 use weights::Context;
 ghost use mathlib.Core.Path.{_≡_};
 ghost use Rattle.report.specs.Report.{Reported};
@@ -30,7 +31,7 @@ pub fn report(base: &[u8], at: Context, out: &mut [u8]) -> Answer
             count: 0,
         };
     }
-    if out.len() < 13 * levels::wide(reader::trailer::permission_count(base)) {
+    if out.len() < 13 * bytes::wide(reader::trailer::permission_count(base)) {
         return Answer {
             refusal: 19,
             count: 0,

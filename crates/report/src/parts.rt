@@ -1,7 +1,7 @@
 // The 13 bytes of each permission.
 use crate::clauses;
-use crate::levels;
 use crate::search;
+use reader::bytes;
 use weights::Fixed;
 ghost use mathlib.Core.Path.{_≡_};
 ghost use mathlib.Core.Bool.{false, cond};
@@ -38,7 +38,7 @@ fn heaviest(w: [u8; 8]) -> usize
 {
     let mut m: usize = 0;
     for r in 0..8usize {
-        let x = levels::wide(w[r]);
+        let x = bytes::wide(w[r]);
         if m < x {
             m = x;
         }
@@ -91,7 +91,7 @@ pub fn fill(base: &[u8], s: Fixed, sets: [u8; 24], out: &mut [u8]) -> u32
     let mut count: u32 = 0;
     for p in 0..n {
         let part = part_for(base, s, sets, p);
-        let at = 13 * levels::wide(p);
+        let at = 13 * bytes::wide(p);
         put(&mut out[at..at + 13], part);
         count = count + above(part[0]);
     }

@@ -1,6 +1,7 @@
 // The search: a level an entry, until a cell meets the permission's condition, and back to the entries.
 use crate::back;
 use crate::levels;
+use reader::bytes;
 ghost use mathlib.Core.Path.{_≡_};
 ghost use mathlib.Core.List.{_∷_};
 ghost use Prim.Native.Nat.{ℕ, _*_, _≤_, _<_};
@@ -31,11 +32,11 @@ fn stepped(sets: &[u8], w: [u8; 8], n: u8, t: &[u8], next: &[u8], later: Found) 
     ensures { λ f. ⌜ Stepped (now (sets .entry)) w n (now (t .entry)) (now (next .entry)) (later .cell) (later .part) (f .cell) (f .part) ⌝ }
 {
     let cell = later.cell;
-    let end = levels::wide(next[cell]);
+    let end = bytes::wide(next[cell]);
     let before = back::step_back(sets, w, t, (cell % 256) as u8, cell / 256, end);
     let mut part = later.part;
-    part[2 * levels::wide(n) + 1] = (end - 1) as u8;
-    part[2 * levels::wide(n) + 2] = before.role;
+    part[2 * bytes::wide(n) + 1] = (end - 1) as u8;
+    part[2 * bytes::wide(n) + 2] = before.role;
     Found {
         cell: before.cell,
         part,

@@ -31,7 +31,7 @@ held-by-requires c κs = c .before .before .before .before .before .before .pre 
 
 returns-2 : tie.Need-returns-2
 unfolding holdsBoth
-returns-2 c = rw (eq-eqb _ _ (c .before .before .before .before .if1 .left), ← c .before .before .wide .ensures, ← c .before .held-by .ensures, not-true (c .before .held-by .result) (c .if2 .taken))
+returns-2 c = rw (eq-eqb _ _ (c .before .before .before .before .if1 .left), ← c .before .before .wide .ensures .0, ← c .before .held-by .ensures, not-true (c .before .held-by .result) (c .if2 .taken))
 
 mul-wide-2 : tie.Need-mul-wide-2
 mul-wide-2 c = search needs
@@ -50,7 +50,7 @@ held-by-requires-2 c κs = c .before .before .before .before .before .before .be
 
 returns-3 : tie.Need-returns-3
 unfolding holdsBoth
-returns-3 c = rw (eq-eqb _ _ (c .before .before .before .before .before .before .before .if1 .left), ← c .before .before .before .before .before .wide .ensures, ← c .before .before .before .before .held-by .ensures, not-false (c .before .before .before .before .held-by .result) (c .before .before .before .if2 .left), ← c .before .wide2 .ensures) (c .held-by2 .ensures)
+returns-3 c = rw (eq-eqb _ _ (c .before .before .before .before .before .before .before .if1 .left), ← c .before .before .before .before .before .wide .ensures .0, ← c .before .before .before .before .held-by .ensures, not-false (c .before .before .before .before .held-by .result) (c .before .before .before .if2 .left), ← c .before .wide2 .ensures .0) (c .held-by2 .ensures)
 
 pub holds-both-spec : {M : Type 1} → statement M
 holds-both-spec =

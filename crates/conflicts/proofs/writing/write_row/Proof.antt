@@ -9,7 +9,8 @@ use lib.Seq.{sets, length-sets}
 use Rattle.folds.specs.Below.{joinBelow}
 use Rattle.folds.specs.Sets.{inSet}
 use Rattle.conflicts.specs.Rows.{rowRecords}
-use Rattle.conflicts.proofs.Lists.{sets-append, sets-three, recordIf, row-more, row-skip, row-room}
+use Rattle.folds.proofs.Lists.{sets-append}
+use Rattle.conflicts.proofs.Lists.{sets-three, recordIf, row-more, row-skip, row-room}
 use Rattle.conflicts.proofs.writing.write_row.Statement.{statement}
 use Rattle.conflicts.proofs.writing.write_row.Tie as tie
 

@@ -7,7 +7,8 @@ use lib.ListN.{length, length-append}
 use lib.Seq.{sets, length-sets}
 use Rattle.folds.specs.Below.{joinBelow}
 use Rattle.conflicts.specs.Rows.{rowsRecords}
-use Rattle.conflicts.proofs.Lists.{sets-append, rows-more, rows-room}
+use Rattle.folds.proofs.Lists.{sets-append}
+use Rattle.conflicts.proofs.Lists.{rows-more, rows-room}
 use Rattle.conflicts.proofs.writing.write_rows.Statement.{statement}
 use Rattle.conflicts.proofs.writing.write_rows.Tie as tie
 

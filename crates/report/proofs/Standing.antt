@@ -8,15 +8,16 @@ use native.Mathlib.Omega.{arith}
 use lib.ListN.{length, getD, take, drop, replicate, length-append, length-replicate}
 use lib.Seq.{take-at, drop-at, drop-drop, getD-drop}
 use Rattle.folds.specs.Below.{joinBelow}
 use Rattle.report.specs.Report.{partOf}
 use Rattle.report.specs.Demand.{numberFor, groupFor}
 
-part-length : (k : ℕ) (g : List ℕ) → k ≤ 6 → length g ≡ 2 * k → length (partOf k g) ≡ 13
+-- a part has 13 bytes
+pub part-length : (k : ℕ) (g : List ℕ) → k ≤ 6 → length g ≡ 2 * k → length (partOf k g) ≡ 13
 part-length k g few e = rw (length-append, length-replicate, e) (omega arith)
 
--- the first n parts
 module _ (f : ℕ → List ℕ) where
-  parts-length : (n : ℕ) → ((p : ℕ) → p < n → length (f p) ≡ 13) → length (joinBelow n f) ≡ 13 * n
+  -- the first n parts
+  pub parts-length : (n : ℕ) → ((p : ℕ) → p < n → length (f p) ≡ 13) → length (joinBelow n f) ≡ 13 * n
   unfolding joinBelow
   parts-length zero h = refl
   parts-length (suc n) h = rw (length-append, parts-length n (λ p l. h p (omega arith)), h n (omega arith)) (omega arith)
