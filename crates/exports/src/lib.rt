@@ -7,7 +7,7 @@ ghost use Rattle.reader.specs.Rules.{refusalOf};
 ghost use Rattle.report.specs.Report.{reportAnswer, Reported};
 ghost use Rattle.report.specs.Demand.{Demanded};
 ghost use Rattle.conflicts.specs.Conflicts.{conflictAnswer, conflictBytes};
-ghost use Rattle.exports.specs.Packed.{packed};
+ghost use Rattle.exports.specs.Packed.{packed, unpacked};
 ghost use Rattle.decision.specs.Decision.{decisionOf};
 
 // The base check: 0 or the first of refusals 1 to 9 that applies.
@@ -35,7 +35,7 @@ pub extern "C" fn release_decide(
 }
 
 // The release report: 0, and 13 bytes a permission in out, or the first of refusals 1 to 9, 11 and 19 that applies; plus
-// 256 times the count, which is the number of permissions that have a group, of a refusal zero. base and out don't
+// 256 times the count, which is the number of permissions that have a group. A refusal carries 0. base and out don't
 // overlap.
 #[no_mangle]
 pub extern "C" fn release_report(
@@ -46,8 +46,8 @@ pub extern "C" fn release_report(
     out: &mut [u8],
 ) -> u64
     ensures answer { λ r. ⌜ r ≡ packed (reportAnswer (now (base .entry)) (record { minute = minute; day = day; zone = zone }) (length (now (out .entry)))) ⌝ }
-    ensures promise { λ _. ⌜ Reported (now (base .entry)) (record { minute = minute; day = day; zone = zone }) (now (out .entry)) (now (out .exit)) (reportAnswer (now (base .entry)) (record { minute = minute; day = day; zone = zone }) (length (now (out .entry)))) ⌝ }
-    ensures demand { λ _. ⌜ Demanded (now (base .entry)) (record { minute = minute; day = day; zone = zone }) (now (out .entry)) (now (out .exit)) (reportAnswer (now (base .entry)) (record { minute = minute; day = day; zone = zone }) (length (now (out .entry)))) ⌝ }
+    ensures promise { λ r. ⌜ Reported (now (base .entry)) (record { minute = minute; day = day; zone = zone }) (now (out .entry)) (now (out .exit)) (unpacked r) ⌝ }
+    ensures demand { λ r. ⌜ Demanded (now (base .entry)) (record { minute = minute; day = day; zone = zone }) (now (out .entry)) (now (out .exit)) (unpacked r) ⌝ }
 {
     let at = Context { minute, day, zone };
     pack(report::report(base, at, out))

@@ -35,7 +35,7 @@ module _ (b : List ℕ) (at : Context) where
   abbrev parts : (ℕ → List ℕ) → ℕ → List ℕ
   parts chosen n = joinBelow n (λ p. partOf (smallestOf b at p) (chosen p))
 
-  done-length : (chosen : ℕ → List ℕ) (n : ℕ) → ((p : ℕ) → p < n → ShownFor b at p (chosen p)) → length (parts chosen n) ≡ 13 * n
+  pub done-length : (chosen : ℕ → List ℕ) (n : ℕ) → ((p : ℕ) → p < n → ShownFor b at p (chosen p)) → length (parts chosen n) ≡ 13 * n
   done-length chosen n shown = parts-length (λ p. partOf (smallestOf b at p) (chosen p)) n (λ p l. part-13 p (chosen p) (shown p l))
 
   pub filled-none : (out : List ℕ) → Filled b at 0 out out

@@ -3,10 +3,10 @@ pub mod Bridge
 pub mod Copy
 pub mod Demand
 pub mod Filling
+pub mod Gathered
 pub mod Grow
 pub mod Joined
 pub mod Least
-pub mod Own
 pub mod Part
 pub mod Seek
 pub mod Shown

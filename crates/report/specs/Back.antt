@@ -1,4 +1,4 @@
--- From a level's cell that meets the condition back to its entries.
+-- From a level's cell that meets the condition back to its entries. Working notions of the search.
 use Prim.Native.Nat.{ℕ, _+_, _/_, _%_, _<_, _≤_}
 use mathlib.Core.Bool.{Bool, true, false}
 use mathlib.Core.Path.{_≡_}

@@ -1,4 +1,4 @@
--- A permission's own clauses, one behind the other.
+-- One permission's clauses, one behind the other. A working notion: the promise doesn't speak of it.
 use Prim.Native.Nat.{ℕ, _<_, _≤_}
 use mathlib.Core.Path.{_≡_}
 use mathlib.Core.List.{List}
@@ -8,7 +8,7 @@ use Rattle.reader.specs.Fields.{clauseLength}
 use Rattle.decision.specs.Conditions.{permissionHolds}
 
 -- the first len of 1,024 bytes are a table K by which permission p's condition is that by the table k
-pub record OwnOf (k : List ℕ) (p : ℕ) (bytes : List ℕ) (len : ℕ) : Type 0 where
+pub record ClausesFor (k : List ℕ) (p : ℕ) (bytes : List ℕ) (len : ℕ) : Type 0 where
   pub size : length bytes ≡ 1024
   pub within : len ≤ 1024
   pub same : (n sum set : ℕ) → permissionHolds (take len bytes) p n sum set ≡ permissionHolds k p n sum set

@@ -23,28 +23,30 @@ numberFor out p = getD out (13 * p) 0
 abbrev pub groupFor : List ℕ → ℕ → List ℕ
 groupFor out p = take (2 * numberFor out p) (drop (13 * p + 1) out)
 
--- the number of users of a group: of how many numbers below 256 an entry has that user
+-- the number of users of a group: of how many numbers below 256 an entry has that user; those of a granted group are below 24
 unfoldable pub userNum : List ℕ → ℕ
 userNum g = countBelow 256 (λ u. anyBelow (entryCount g) (λ i. eqb (entryUser g i) u))
 
 -- the decider grants some group permission p
-abbrev pub SomeGranted : List ℕ → Context → ℕ → Type 0
-SomeGranted b at p = (t : List ℕ) × (decisionOf b at p t ≡ 0)
+abbrev pub Grantable : List ℕ → Context → ℕ → Type 0
+Grantable b at p = (t : List ℕ) × (decisionOf b at p t ≡ 0)
 
 -- demand 3 of the answer r and the buffer out: groups are all lists of numbers whatever
 pub record Demand3 (b : List ℕ) (at : Context) (out : List ℕ) (r : Answer) : Type 0 where
   pub done : r .refusal ≡ 0
+  -- the buffer carries a number and a group for each permission
+  pub carries : 13 * permissionCount b ≤ length out
   -- the number is zero exactly when the decider grants no group
-  pub zero : (p : ℕ) → p < permissionCount b → (numberFor out p ≡ 0) ↔ (SomeGranted b at p → ⊥)
+  pub zero : (p : ℕ) → p < permissionCount b → (numberFor out p ≡ 0) ↔ (Grantable b at p → ⊥)
   -- above zero, the group shown has that many users and is granted
   pub users : (p : ℕ) → p < permissionCount b → 0 < numberFor out p → userNum (groupFor out p) ≡ numberFor out p
   pub granted : (p : ℕ) → p < permissionCount b → 0 < numberFor out p → decisionOf b at p (groupFor out p) ≡ 0
   -- every group that is granted has at least as many
   pub least : (p : ℕ) → p < permissionCount b → (t : List ℕ) → decisionOf b at p t ≡ 0 → numberFor out p ≤ userNum t
   -- the count is the number of permissions for which some group is granted
-  pub can : ℕ → Bool
-  pub can-is : (p : ℕ) → p < permissionCount b → (can p ≡ true) ↔ SomeGranted b at p
-  pub count : r .count ≡ countBelow (permissionCount b) can
+  pub grantable : ℕ → Bool
+  pub grantable-is : (p : ℕ) → p < permissionCount b → (grantable p ≡ true) ↔ Grantable b at p
+  pub count : r .count ≡ countBelow (permissionCount b) grantable
 
 -- what is demanded of the call: demand 3, where none of refusals 1 to 9, 11 and 19 applies
 abbrev pub Demanded : List ℕ → Context → List ℕ → List ℕ → Answer → Type 0

@@ -1,5 +1,5 @@
 -- The table of a level: a cell for each sum and set of roles of the entries placed, with the least end, one past the last user; 255 in cells
--- that are not reached.
+-- that are not reached. Working notions of the search: the promise doesn't speak of them.
 use Prim.Native.Nat.{ℕ, _+_, _*_, _/_, _%_, _^_, _<_, _≤_, min}
 use mathlib.Core.Bool.{true, false}
 use mathlib.Core.Path.{_≡_}
@@ -9,7 +9,7 @@ use lib.ListN.{length, getD}
 use lib.Bits.{bitOr}
 use Rattle.folds.specs.Sets.{inSet}
 
--- the place of a set of roles and a sum
+-- the place of a set of roles and a sum; there are 61,696 places: sums 0 to 240, and 256 sets each
 abbrev pub place : ℕ → ℕ → ℕ
 place set sum = sum * 256 + set
 
@@ -26,7 +26,7 @@ pub record Relaxed (t : List ℕ) (at end : ℕ) (next : List ℕ) : Type 0 wher
   pub here : getD next at 0 ≡ min end (getD t at 0)
   pub other : (i : ℕ) → (i ≡ at → ⊥) → getD next i 0 ≡ getD t i 0
 
--- one entry more, of user u in role r, for users from `end` on: where it leads
+-- an entry more: of user u, the first from `end` on who may act in role r, which has weight
 pub record Entered (sets w : List ℕ) (end r u : ℕ) : Type 0 where
   pub role : r < 8
   pub heavy : 0 < getD w r 0
@@ -45,7 +45,7 @@ pub record Brought (sets w : List ℕ) (set sum end i value : ℕ) : Type 0 wher
   pub there : i ≡ target w set sum role
   pub is : value ≡ user + 1
 
--- the table with what one set, sum and end lead to in role r
+-- the table with what one set, sum and end lead to in role r; what has changed was brought by some role
 pub record GrownIn (sets w : List ℕ) (set sum end r : ℕ) (was now : List ℕ) : Type 0 where
   pub size : length now ≡ length was
   pub smaller : (i : ℕ) → getD now i 0 ≤ getD was i 0
@@ -78,7 +78,7 @@ pub record Level (sets : List ℕ) (top : ℕ) (t : List ℕ) : Type 0 where
   pub sums : Sums top t
   pub within : (c : ℕ) → c < 61696 → getD t c 0 < 255 → getD t c 0 ≤ length sets
 
--- the table next has what the cells before `upto` of the table t lead to: each reached cell comes from one, and none ends later than need be
+-- the table next has what cells of the table t lead to: each reached cell comes from one, and an entry from a cell before `upto` ends no earlier
 pub record Advanced (sets w t : List ℕ) (upto : ℕ) (next : List ℕ) : Type 0 where
   pub size : length next ≡ 61696
   pub came : (cell : ℕ) → cell < 61696 → getD next cell 0 < 255 → (c : ℕ) × (r : ℕ) × LeadsTo sets w t cell (getD next cell 0) c r

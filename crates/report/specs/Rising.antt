@@ -1,4 +1,4 @@
--- Groups as lists of entries by rising user.
+-- Groups as lists of entries by rising user. Working notions of the search: the promise speaks of bytes.
 use Prim.Native.Nat.{ℕ, _+_, _^_, _<_, _≤_}
 use mathlib.Core.Bool.{true}
 use mathlib.Core.Path.{_≡_}

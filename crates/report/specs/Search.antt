@@ -1,13 +1,26 @@
--- The search: from a table of states, the fewest entries more that meet the permission's condition.
+-- The search: from a table of states, the fewest entries more that meet the permission's condition. Working notions.
 use Prim.Native.Nat.{ℕ, _+_, _-_, _*_, _/_, _%_, _<_, _≤_}
 use mathlib.Core.Bool.{Bool, true, false}
 use mathlib.Core.Path.{_≡_}
 use mathlib.Core.List.{List, [], _∷_, _++_}
 use lib.ListN.{length, getD, set, replicate}
 use lib.Bits.{bitOr}
+use Rattle.reader.specs.Tables.{clauses, recordCount}
+use Rattle.reader.specs.Fields.{clauseLength}
 use Rattle.decision.specs.Conditions.{permissionHolds}
-use Rattle.report.specs.Levels.{LeadsTo}
+use Rattle.report.specs.Levels.{LeadsTo, Level}
 use Rattle.report.specs.Rising.{Entry, Rises, sumOf, rolesOf, bytesOf}
+
+-- what the search starts from: at most 24 users, no role heavier than `heavy`, clauses of at most 4 conditions, and a table of n entries
+-- placed with sums up to `top`
+pub record Start (sets w : List ℕ) (heavy : ℕ) (k : List ℕ) (n top : ℕ) (t : List ℕ) : Type 0 where
+  pub users : length sets ≤ 24
+  pub light : (r : ℕ) → r < 8 → getD w r 0 ≤ heavy
+  pub heavy-le : heavy ≤ 40
+  pub clause : (i : ℕ) → i < recordCount clauses k → clauseLength k i ≤ 4
+  pub placed : n ≤ 6
+  pub top-le : top ≤ 40 * n
+  pub level : Level sets top t
 
 -- the condition holds of the n entries placed that a cell stands for, and the entries g behind them
 abbrev pub holdsWith : List ℕ → List ℕ → ℕ → ℕ → ℕ → List Entry → Bool

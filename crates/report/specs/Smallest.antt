@@ -1,4 +1,4 @@
--- The smallest number of entries that is granted, of any `granted`. To be believed, not run.
+-- The least number of entries of a group that `granted` grants, for any `granted`. To be believed, not run.
 use Prim.Native.Nat.{ℕ, zero, suc}
 use mathlib.Core.Bool.{Bool, cond}
 use mathlib.Core.List.{List, [], _∷_}

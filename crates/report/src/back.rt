@@ -33,7 +33,7 @@ pub fn meeting_cell(k: &[u8], permission: u8, n: u32, top: usize, t: &[u8]) -> u
     61696
 }
 
-// Cell c of the table, with an entry more of role r, ends at `end`.
+// Whether cell c of the table, with an entry more of role r, ends at `end`.
 fn ends_at(sets: &[u8], t: &[u8], c: usize, r: u8, end: usize) -> bool
     requires { ⌜ (c < length (now t)) × (r < 8) × (length (now sets) ≤ 24) ⌝ }
     ensures { λ b. ⌜ EndsAt (now (sets .entry)) (now (t .entry)) c r end b ⌝ }
@@ -75,13 +75,13 @@ fn back_in(sets: &[u8], w: [u8; 8], t: &[u8], set: u8, sum: usize, end: usize, r
     61696
 }
 
-// A cell of the level before, and the role of the entry that leads on from it.
+// Inner: a cell of the level before, and the role of the entry that leads on from it.
 pub struct Back {
     pub cell: usize,
     pub role: u8,
 }
 
-// The cell and the role from which the set and the sum with this end came.
+// Inner: a cell and a role from which the set and the sum with this end came, if there is one.
 pub fn step_back(sets: &[u8], w: [u8; 8], t: &[u8], set: u8, sum: usize, end: usize) -> Back
     requires { ⌜ (length (now sets) ≤ 24) × (length (now t) ≡ 61696) × (sum ≤ 240) ⌝ }
     ensures { λ b. ⌜ ((c r : ℕ) → LeadsTo (now (sets .entry)) w (now (t .entry)) (place set sum) end c r → LeadsTo (now (sets .entry)) w (now (t .entry)) (place set sum) end (b .cell) (b .role)) ⌝ }

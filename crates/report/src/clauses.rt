@@ -1,14 +1,14 @@
-// A permission's own clauses, copied one behind the other, so that the search need not look at those of the others.
+// One permission's clauses, copied one behind the other, so that the search need not look at those of the others.
 ghost use mathlib.Core.Path.{_≡_};
 ghost use Prim.Native.Nat.{ℕ, _+_, _*_, _≤_, _<_};
 ghost use lib.ListN.{length, drop};
 ghost use lib.Seq.{paste};
 ghost use Rattle.reader.specs.Tables.{clauses, recordCount};
 ghost use Rattle.reader.specs.Fields.{clauseLength};
-ghost use Rattle.report.specs.Clauses.{OwnOf};
+ghost use Rattle.report.specs.Clauses.{ClausesFor};
 
-// A permission's clauses as a table K of their own: the first `length` bytes.
-pub struct OwnClauses {
+// Clauses as a table K of their own: the first `length` bytes, at most 64 clauses of 16.
+pub struct ClauseTable {
     pub bytes: [u8; 1024],
     pub length: usize,
 }
@@ -24,9 +24,9 @@ fn copy_clause(k: &[u8], i: usize, at: usize, bytes: &mut [u8])
 }
 
 // Inner: the clauses of one permission in their order, by a table K whose clauses have at most 4 conditions.
-pub fn own_clauses(k: &[u8], permission: u8) -> OwnClauses
+pub fn clauses_for(k: &[u8], permission: u8) -> ClauseTable
     requires { ⌜ (length (now k) ≤ 1024) × ((i : ℕ) → i < recordCount clauses (now k) → clauseLength (now k) i ≤ 4) ⌝ }
-    ensures { λ r. ⌜ OwnOf (now (k .entry)) permission (r .bytes) (r .length) ⌝ }
+    ensures { λ r. ⌜ ClausesFor (now (k .entry)) permission (r .bytes) (r .length) ⌝ }
 {
     let mut bytes = [0u8; 1024];
     let mut at = 0;
@@ -36,5 +36,5 @@ pub fn own_clauses(k: &[u8], permission: u8) -> OwnClauses
             at += 16;
         }
     }
-    OwnClauses { bytes, length: at }
+    ClauseTable { bytes, length: at }
 }

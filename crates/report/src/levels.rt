@@ -5,7 +5,7 @@ ghost use Prim.Native.Nat.{ℕ, _+_, _*_, _/_, _≤_, _<_};
 ghost use lib.ListN.{length, getD, replicate};
 ghost use Rattle.report.specs.Levels.{place, Next, Relaxed, GrownIn, Grown, Level, Advanced};
 
-// The first user from `from` on who may act in the role, or the number of users.
+// Inner: the first user from `from` on who may act in the role, or the number of users.
 pub fn next_user(sets: &[u8], from: usize, role: u8) -> usize
     requires { ⌜ (from ≤ length (now sets)) × (role < 8) ⌝ }
     ensures { λ u. ⌜ Next (now (sets .entry)) from role u ⌝ }
@@ -30,6 +30,7 @@ fn relax(t: &mut [u8], at: usize, end: u8)
     }
 }
 
+// Inner: the place of a set and a sum in a table.
 pub fn place_of(set: u8, sum: usize) -> usize
     requires { ⌜ sum ≤ 240 ⌝ }
     ensures { λ r. ⌜ (r ≡ place set sum) × (r < 61696) ⌝ }

@@ -2,7 +2,6 @@
 use reader::Answer;
 use reader::bytes;
 use weights::Context;
-ghost use mathlib.Core.Path.{_≡_};
 ghost use Rattle.report.specs.Report.{Reported};
 ghost use Rattle.report.specs.Demand.{Demanded};
 
@@ -12,8 +11,9 @@ mod levels;
 mod parts;
 pub mod search;
 
-// Entry point: writes 13 bytes a permission; refusals 1 to 9, 11 and 19. The count is the number of permissions that
-// have a group.
+// Entry point: writes for each permission the number k of approvers, k entries by rising user, and 255 in every byte left
+// of 13; later bytes keep their contents. The count is the number of permissions with k above 0. Refusals 1 to 9, 11 and
+// 19 carry 0 and write nothing. It needs about half a megabyte of stack.
 pub fn report(base: &[u8], at: Context, out: &mut [u8]) -> Answer
     ensures promise { λ r. ⌜ Reported (now (base .entry)) at (now (out .entry)) (now (out .exit)) r ⌝ }
     ensures demand { λ r. ⌜ Demanded (now (base .entry)) at (now (out .entry)) (now (out .exit)) r ⌝ }

@@ -8,12 +8,10 @@ ghost use mathlib.Core.Bool.{false, cond};
 ghost use Prim.Native.Nat.{ℕ, _*_, _≤_, _<_};
 ghost use lib.ListN.{length, getD};
 ghost use lib.Dec.{ltb};
-ghost use Rattle.folds.specs.Below.{countBelow};
 ghost use Rattle.reader.specs.Tables.{permissionCount};
 ghost use Rattle.reader.specs.Rules.{refusalOf};
 ghost use Rattle.weights.specs.Contexts.{outOfRange};
 ghost use Rattle.weights.specs.Setting.{FixedBy};
-ghost use Rattle.report.specs.Smallest.{smallestOf};
 ghost use Rattle.report.specs.Report.{releasable};
 ghost use Rattle.report.specs.Parts.{ActingSets, Heaviest, PartFor, Filled};
 
@@ -31,7 +29,7 @@ pub fn acting_sets(base: &[u8]) -> [u8; 24]
     sets
 }
 
-// The largest weight.
+// The largest weight of a role.
 fn heaviest(w: [u8; 8]) -> usize
     requires { ⌜ ((r : ℕ) → r < 8 → getD w r 0 ≤ 40) ⌝ }
     ensures { λ m. ⌜ Heaviest w m ⌝ }
@@ -52,9 +50,9 @@ fn part_for(base: &[u8], s: Fixed, sets: [u8; 24], permission: u8) -> [u8; 13]
     ensures { λ part. ⌜ PartFor (now (base .entry)) (s .at) permission part ⌝ }
 {
     let w = weights::role_weights(base, s, permission);
-    let own = clauses::own_clauses(reader::table(base, reader::CLAUSES), permission);
-    let k = own.bytes;
-    let length = own.length;
+    let its = clauses::clauses_for(reader::table(base, reader::CLAUSES), permission);
+    let k = its.bytes;
+    let length = its.length;
     let heavy = heaviest(w);
     let mut t = [255u8; 61696];
     t[0] = 0;
@@ -62,7 +60,7 @@ fn part_for(base: &[u8], s: Fixed, sets: [u8; 24], permission: u8) -> [u8; 13]
     found.part
 }
 
-// Writes the 13 bytes.
+// Writes the 13 bytes of a part.
 fn put(out: &mut [u8], part: [u8; 13])
     requires { ⌜ (length (now out) ≡ 13) × (length part ≡ 13) ⌝ }
     ensures { λ _. ⌜ now (out .exit) ≡ part ⌝ }
@@ -72,11 +70,11 @@ fn put(out: &mut [u8], part: [u8; 13])
     }
 }
 
-// 1 for a number above 0.
-fn above(k: u8) -> u32
-    ensures { λ r. ⌜ (r ≡ cond (ltb 0 k) 1 0) × (r ≤ 1) ⌝ }
+// 1 for a number of approvers above 0, else 0.
+fn above(number: u8) -> u32
+    ensures { λ r. ⌜ (r ≡ cond (ltb 0 number) 1 0) × (r ≤ 1) ⌝ }
 {
-    if 0 < k {
+    if 0 < number {
         return 1;
     }
     0

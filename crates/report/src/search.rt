@@ -4,12 +4,10 @@ use crate::levels;
 use reader::bytes;
 ghost use mathlib.Core.Path.{_≡_};
 ghost use mathlib.Core.List.{_∷_};
-ghost use Prim.Native.Nat.{ℕ, _*_, _≤_, _<_};
+ghost use Prim.Native.Nat.{_≤_, _<_};
 ghost use lib.ListN.{length, getD, replicate};
-ghost use Rattle.reader.specs.Tables.{clauses, recordCount};
-ghost use Rattle.reader.specs.Fields.{clauseLength};
-ghost use Rattle.report.specs.Levels.{Level, Advanced};
-ghost use Rattle.report.specs.Search.{Stepped, Sought};
+ghost use Rattle.report.specs.Levels.{Advanced};
+ghost use Rattle.report.specs.Search.{Start, Stepped, Sought};
 
 // A cell of a level's table, or 61,696, and the 13 bytes with the entries that lead on from it.
 pub struct Found {
@@ -55,7 +53,7 @@ pub fn search(
     top: usize,
     t: &[u8],
 ) -> Found
-    requires { ⌜ (length (now sets) ≤ 24) × ((r : ℕ) → r < 8 → getD w r 0 ≤ heavy) × (heavy ≤ 40) × ((i : ℕ) → i < recordCount clauses (now k) → clauseLength (now k) i ≤ 4) × (n ≤ 6) × (top ≤ 40 * n) × Level (now sets) top (now t) ⌝ }
+    requires { ⌜ Start (now sets) w heavy (now k) n top (now t) ⌝ }
     ensures { λ f. ⌜ Sought (now (sets .entry)) w (now (k .entry)) permission n (now (t .entry)) (f .cell) (f .part) ⌝ }
 {
     let cell = back::meeting_cell(k, permission, n as u32, top, t);

@@ -4,7 +4,7 @@ use native.Mathlib.Omega.{arith}
 use lib.ListN.{length, getD, drop, length-set}
 use lib.Seq.{paste, paste-zero}
 use borrow.Author.Needs.{needs}
-use Rattle.report.proofs.Own.{copied-more}
+use Rattle.report.proofs.Gathered.{copied-more}
 use Rattle.report.proofs.clauses.copy_clause.Statement.{statement}
 use Rattle.report.proofs.clauses.copy_clause.Tie as tie
 

@@ -15,7 +15,7 @@ use Rattle.folds.proofs.Tests.{split, all-same, any-same, any-next, any-none}
 use Rattle.reader.specs.Tables.{clauses, recordCount}
 use Rattle.reader.specs.Fields.{clausePermission, clauseLength}
 use Rattle.decision.specs.Conditions.{conditionHolds, clauseHolds, clauseOfHolds, permissionHolds}
-use Rattle.report.specs.Clauses.{OwnOf}
+use Rattle.report.specs.Clauses.{ClausesFor}
 
 -- the 16 bytes of clause i of a are those of clause j of b
 abbrev SameClause : List ℕ → ℕ → List ℕ → ℕ → Type 0
@@ -140,7 +140,7 @@ module _ (k : List ℕ) (p : ℕ) where
         }
 
   -- after all clauses
-  pub own-all : (i : ℕ) (bytes : List ℕ) (len : ℕ) → length k ≤ 1024 → i ≡ recordCount clauses k → OwnIn k p i bytes len → OwnOf k p bytes len
+  pub own-all : (i : ℕ) (bytes : List ℕ) (len : ℕ) → length k ≤ 1024 → i ≡ recordCount clauses k → OwnIn k p i bytes len → ClausesFor k p bytes len
   unfolding permissionHolds
   own-all i bytes len small e d = record {
     size = d .size;

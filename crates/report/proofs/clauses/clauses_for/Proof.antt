@@ -5,9 +5,9 @@ use native.Mathlib.Omega.{arith}
 use lib.ListN.{replicate, length-replicate}
 use borrow.Author.Needs.{needs}
 use Rattle.reader.specs.Tables.{clauses, recordCount}
-use Rattle.report.proofs.Own.{OwnIn, own-start, own-other, own-copied, own-all}
-use Rattle.report.proofs.clauses.own_clauses.Statement.{statement}
-use Rattle.report.proofs.clauses.own_clauses.Tie as tie
+use Rattle.report.proofs.Gathered.{OwnIn, own-start, own-other, own-copied, own-all}
+use Rattle.report.proofs.clauses.clauses_for.Statement.{statement}
+use Rattle.report.proofs.clauses.clauses_for.Tie as tie
 
 abbrev Inv-loop : tie.InvT-loop
 Inv-loop k permission bytes₀ at₀ i₀ i-end bytes at i = (i ≤ recordCount clauses k) × OwnIn k permission i bytes at
@@ -61,8 +61,8 @@ loop-again c =
 returns : tie.Need-returns Inv-loop μ-loop
 returns c = own-all (c .before .before .before .args .k .now) (c .before .before .before .args .permission) (c .before .loop .i) (c .before .loop .bytes) (c .before .loop .at) (c .before .before .before .pre .0) (omega arith) (c .before .loop .inv .1)
 
-pub own-clauses-spec : {M : Type 1} → statement M
-own-clauses-spec =
+pub clauses-for-spec : {M : Type 1} → statement M
+clauses-for-spec =
     tie.close
     (tie.spec
     Inv-loop
