@@ -1,5 +1,5 @@
 -- The report's answer and bytes as text.
-use Prim.Native.Nat.{ℕ, _+_, _<_, _≤_}
+use Prim.Native.Nat.{ℕ, _<_, _≤_}
 use mathlib.Core.Bool.{Bool, true, false, cond}
 use mathlib.Core.Path.{_≡_, refl, sym, ap, _∙_}
 use mathlib.Core.List.{List, [], _++_}
@@ -16,12 +16,12 @@ use Rattle.reader.proofs.Accepted.{accepted-frame}
 use Rattle.weights.specs.declared.Context.{Context}
 use Rattle.report.specs.Smallest.{smallestOf}
 use Rattle.report.specs.Report.{reportRefusal, releasable, reportAnswer, ShownFor, Reported}
-use Rattle.release_list.specs.Text.{ascii, lineText, countText, refusedText, releasableText, reportText, baseOf, contextOf, listingText, Listed}
+use Rattle.release_list.specs.Text.{ascii, lineText, countText, refusedText, releasableText, refusalFor, reportText, baseOf, contextOf, listingText, Listed}
 use Rattle.release_list.specs.Writing.{Written, Parts, linesText, ReportListed}
 use Rattle.release_list.proofs.Stores.{joined}
 use Rattle.release_list.proofs.Sizes.{count-length}
 use Rattle.release_list.proofs.Decimal.{two-length, three-length}
-use Rattle.release_list.proofs.Shown.{base-accepted, shown-parts, shown-lines, lines-le, releasable-few}
+use Rattle.release_list.proofs.Shown.{base-accepted, buffer-suffices, shown-parts, shown-lines, lines-le, releasable-few}
 
 -- a text written from byte 0 on, and the bytes behind it as they were
 pub at-front : (text : List ℕ) {out after : List ℕ} {n : ℕ} → Written text out 0 n after → length text ≤ length out →
@@ -56,17 +56,24 @@ module _ (b : List ℕ) (at : Context) (was after : List ℕ) (r : Answer) (size
       by true e = sym (eqb-true _ _ e)
       by false e = refl
 
+  -- these bytes suffice, so what is printed is the refusal for a buffer that suffices
+  printed-is : r .refusal ≡ refusalFor b at
+  printed-is = refusal-is ∙ buffer-suffices b at
+
+  shown-where : refusalFor b at ≡ 0 → (p : ℕ) → p < permissionCount b → ShownFor b at p (d .chosen p)
+  shown-where z = d .shown (rw size (buffer-suffices b at ∙ z))
+
   pub refused-listed : (r .refusal ≡ 0 → ⊥) → {out text : List ℕ} {n : ℕ} → 768 ≤ length out → Written (refusedText (r .refusal)) out 0 n text →
       ReportListed b at out text n
   unfolding reportText
   refused-listed h {out} l w =
-      let e : eqb (reportRefusal b at 208) 0 ≡ false = ne-eqb _ 0 (λ z. h (refusal-is ∙ z)) in
+      let e : eqb (refusalFor b at) 0 ≡ false = ne-eqb _ 0 (λ z. h (printed-is ∙ z)) in
       let t = at-front (refusedText (r .refusal)) w (omega (arith, count-short (ascii "refused ") (r .refusal) (omega arith))) in
       record {
         chosen = d .chosen;
-        shown = rw size at (d .shown);
-        size = rw (e, ← refusal-is) (t .0);
-        bytes = rw (e, ← refusal-is) (t .1);
+        shown = shown-where;
+        size = rw (e, ← printed-is) (t .0);
+        bytes = rw (e, ← printed-is) (t .1);
       }
 
   -- a report that isn't refused
@@ -110,12 +117,12 @@ module _ (b : List ℕ) (at : Context) (was after : List ℕ) (r : Answer) (size
         Written (releasableText (r .count)) mid next n text → ReportListed b at out text n
     unfolding reportText
     done-listed {out} l v w =
-        let e = eq-eqb (reportRefusal b at 208) 0 unrefused in
+        let e = eq-eqb (refusalFor b at) 0 (sym printed-is ∙ done) in
         let fit : length (linesText after (permissionCount b) ++ releasableText (r .count)) ≤ length out = rw length-append (omega (arith, lines-short, last-short)) in
         let t = at-front (linesText after (permissionCount b) ++ releasableText (r .count)) (joined v w) fit in
         record {
           chosen = d .chosen;
-          shown = rw size at (d .shown);
+          shown = shown-where;
           size = rw (e, ← count-is, ← lines-are) (t .0);
           bytes = rw (e, ← count-is, ← lines-are) (t .1);
         }

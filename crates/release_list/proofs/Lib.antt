@@ -4,4 +4,5 @@ pub mod Sizes
 pub mod Order
 pub mod Shown
 pub mod Answered
+pub mod Whole
 pub mod Examples

@@ -1,12 +1,12 @@
 -- What the program reads off a report.
-use Prim.Native.Nat.{ℕ, _+_, _*_, _<_, _≤_}
+use Prim.Native.Nat.{ℕ, _*_, _<_, _≤_}
 use mathlib.Core.Bool.{Bool, true, false, not, cond}
 use mathlib.Core.Path.{_≡_, refl}
 use mathlib.Core.Logic.{⊎-elim}
 use mathlib.Core.List.{List, _++_}
 use native.Mathlib.Nat.{eq-zero-or-pos}
 use native.Mathlib.Omega.{arith}
-use borrow.Author.Tests.{eqb-true, eq-eqb}
+use borrow.Author.Tests.{eqb-true, eq-eqb, le-ltb}
 use lib.Dec.{ltb, eqb, lit<}
 use lib.ListN.{length, drop}
 use Rattle.folds.specs.Below.{joinBelow}
@@ -24,7 +24,7 @@ use Rattle.decision.proofs.Granting.{granted-by}
 use Rattle.report.specs.Smallest.{smallestOf}
 use Rattle.report.specs.Report.{reportRefusal, releasable, partOf, reportBytes, ShownFor}
 use Rattle.report.specs.Demand.{numberFor, groupFor}
-use Rattle.release_list.specs.Text.{lineText}
+use Rattle.release_list.specs.Text.{lineText, refusalFor}
 use Rattle.release_list.specs.Writing.{Rising, Parts, lineAt, linesText}
 use Rattle.release_list.proofs.Order.{line-le}
 use Rattle.report.proofs.Standing.{number-at, group-at}
@@ -38,6 +38,19 @@ base-accepted b at n = by (eqb (refusalOf b) 0) refl
         cond (not t) (refusalOf b) (cond (outOfRange at) 11 (cond (ltb n (13 * permissionCount b)) 19 0)) ≡ 0 → refusalOf b ≡ 0
     by true e h = eqb-true (refusalOf b) 0 e
     by false e h = h
+
+-- 208 bytes suffice: 13 for each of at most 16 permissions
+pub buffer-suffices : (b : List ℕ) (at : Context) → reportRefusal b at 208 ≡ refusalFor b at
+unfolding reportRefusal
+buffer-suffices b at = by (eqb (refusalOf b) 0) refl
+  where
+    by : (t : Bool) → eqb (refusalOf b) 0 ≡ t →
+        cond (not t) (refusalOf b) (cond (outOfRange at) 11 (cond (ltb 208 (13 * permissionCount b)) 19 0)) ≡
+        cond (not t) (refusalOf b) (cond (outOfRange at) 11 (cond (ltb (13 * permissionCount b) (13 * permissionCount b)) 19 0))
+    by true e =
+        let few = permissions-le b (accepted-frame b (eqb-true (refusalOf b) 0 e)) in
+        rw (le-ltb 208 (13 * permissionCount b) (omega arith), le-ltb (13 * permissionCount b) (13 * permissionCount b) (omega arith))
+    by false e = refl
 
 -- a group that is shown is small, its users rise, and users and roles have few digits
 module _ (b : List ℕ) (at : Context) (p : ℕ) (g : List ℕ) (shown : ShownFor b at p g) where

@@ -1,11 +1,11 @@
 -- What the program prints: a line for each permission and the count, or the refusal.
-use Prim.Native.Nat.{ℕ, _+_, _/_, _%_, _<_, _≤_}
+use Prim.Native.Nat.{ℕ, _+_, _*_, _/_, _%_, _<_, _≤_}
 use Prim.Native.Char.{code}
 use Prim.Native.String.{String, [] as empty, _∷_ as _then_}
 use mathlib.Core.Bool.{cond}
 use mathlib.Core.Path.{_≡_}
 use mathlib.Core.List.{List, [], _∷_, _++_}
-use lib.ListN.{length, getD, drop}
+use lib.ListN.{length, getD, take, drop}
 use lib.Dec.{ltb, eqb}
 use Rattle.folds.specs.Below.{joinBelow}
 use Rattle.reader.specs.Bytes.{word16}
@@ -59,12 +59,16 @@ releasableText n = countText (ascii "releasable ") n
 abbrev pub refusedText : ℕ → List ℕ
 refusedText n = countText (ascii "refused ") n
 
--- a report as text, with the group chosen for each permission; 208 bytes hold the report of 16 permissions
+-- the refusal of the report on a base, or 0: the program lends it a buffer that suffices, so 19 never applies
+abbrev pub refusalFor : List ℕ → Context → ℕ
+refusalFor b at = reportRefusal b at (13 * permissionCount b)
+
+-- a report as text, with the group chosen for each permission
 unfoldable pub reportText : List ℕ → Context → (ℕ → List ℕ) → List ℕ
 reportText b at chosen =
-    cond (eqb (reportRefusal b at 208) 0)
+    cond (eqb (refusalFor b at) 0)
     (joinBelow (permissionCount b) (λ p. lineText p (smallestOf b at p) (chosen p)) ++ releasableText (releasable b at))
-    (refusedText (reportRefusal b at 208))
+    (refusedText (refusalFor b at))
 
 -- the input: minute (2 bytes), day, zone (1 byte each), and then a base
 unfoldable pub contextOf : List ℕ → Context
@@ -78,11 +82,16 @@ unfoldable pub listingText : List ℕ → (ℕ → List ℕ) → List ℕ
 listingText input chosen =
     cond (ltb (length input) 4) (refusedText 1) (reportText (baseOf input) (contextOf input) chosen)
 
--- the promise of the listing: `after` is the buffer that held `out`, with the text in its first n bytes; the choice of
--- group is the report's
+-- the text for an input stands in the first n bytes of `after`, which held `out`; the choice of group is the report's
 pub record Listed (input out after : List ℕ) (n : ℕ) : Type 0 where
   pub chosen : ℕ → List ℕ
-  pub shown : 4 ≤ length input → reportRefusal (baseOf input) (contextOf input) 208 ≡ 0 →
+  pub shown : 4 ≤ length input → refusalFor (baseOf input) (contextOf input) ≡ 0 →
       (p : ℕ) → p < permissionCount (baseOf input) → ShownFor (baseOf input) (contextOf input) p (chosen p)
   pub size : n ≡ length (listingText input chosen)
   pub bytes : after ≡ listingText input chosen ++ drop n out
+
+-- the promise of the listing: `input` is the program's buffer, and reading gave its first `read` bytes. Whatever the whole
+-- standard input is, however long, if these are its first bytes, as many as the buffer holds or all, then the text for the
+-- whole is what is printed.
+pub record WholeListed (input : List ℕ) (read : ℕ) (out after : List ℕ) (n : ℕ) : Type 0 where
+  pub listed : (whole : List ℕ) → take (length input) whole ≡ take read input → Listed whole out after n

@@ -1,4 +1,4 @@
--- What the functions that write the text require and promise.
+-- Working notions of the writing functions, which a reader of the promise need not believe; Text.antt is what to believe.
 use Prim.Native.Nat.{ℕ, _+_, _*_, _<_, _≤_}
 use mathlib.Core.Path.{_≡_}
 use mathlib.Core.List.{List, _++_}
@@ -8,9 +8,9 @@ use Rattle.folds.specs.Below.{joinBelow}
 use Rattle.decision.specs.Groups.{entryCount, entryUser}
 use Rattle.reader.specs.Tables.{permissionCount}
 use Rattle.weights.specs.declared.Context.{Context}
-use Rattle.report.specs.Report.{reportRefusal, ShownFor}
+use Rattle.report.specs.Report.{ShownFor}
 use Rattle.report.specs.Demand.{numberFor, groupFor}
-use Rattle.release_list.specs.Text.{entryAt, lineText, reportText}
+use Rattle.release_list.specs.Text.{entryAt, lineText, refusalFor, reportText}
 
 -- the text is stored byte by byte in `out` from place `at` on, which makes it `after`; `next` is the place behind it
 pub record Written (text out : List ℕ) (at next : ℕ) (after : List ℕ) : Type 0 where
@@ -42,6 +42,6 @@ linesText parts n = joinBelow n (lineAt parts)
 -- the report on a base stands as text in the first n bytes of `after`, which held `out`
 pub record ReportListed (b : List ℕ) (at : Context) (out after : List ℕ) (n : ℕ) : Type 0 where
   pub chosen : ℕ → List ℕ
-  pub shown : reportRefusal b at 208 ≡ 0 → (p : ℕ) → p < permissionCount b → ShownFor b at p (chosen p)
+  pub shown : refusalFor b at ≡ 0 → (p : ℕ) → p < permissionCount b → ShownFor b at p (chosen p)
   pub size : n ≡ length (reportText b at chosen)
   pub bytes : after ≡ reportText b at chosen ++ drop n out

@@ -4,7 +4,7 @@ use weights::Context;
 ghost use mathlib.Core.Path.{_≡_};
 ghost use Prim.Native.Nat.{_≤_};
 ghost use lib.ListN.{length};
-ghost use Rattle.release_list.specs.Text.{contextOf, Listed};
+ghost use Rattle.release_list.specs.Text.{contextOf, Listed, WholeListed};
 ghost use Rattle.release_list.specs.Writing.{ReportListed};
 
 // The context in the first four bytes of the input: minute (2 bytes), day, zone (1 byte each).
@@ -19,11 +19,12 @@ fn context_of(input: &[u8]) -> Context
     }
 }
 
-// The report on a base as text; the text's length.
+// The report on a base as text; the text's length. 768 bytes hold sixteen lines of at most 47 bytes and a last one.
 fn put_report(out: &mut [u8], base: &[u8], at: Context) -> usize
     requires { ⌜ 768 ≤ length (now out) ⌝ }
     ensures { λ n. ⌜ ReportListed (now (base .entry)) at (now (out .entry)) (now (out .exit)) n ⌝ }
 {
+    // 13 bytes for each of 16 permissions
     let mut parts = [0u8; 208];
     let answer = report::report(base, at, &mut parts);
     if answer.refusal != 0 {
@@ -33,8 +34,8 @@ fn put_report(out: &mut [u8], base: &[u8], at: Context) -> usize
     text::put_count(out, next, b"releasable ", answer.count as u8)
 }
 
-// All that the program prints for its input, in the first bytes of the buffer; how many.
-pub fn listing(input: &[u8], out: &mut [u8]) -> usize
+// The text for an input, in the first bytes of `out`; how many.
+fn put_listing(out: &mut [u8], input: &[u8]) -> usize
     requires { ⌜ 768 ≤ length (now out) ⌝ }
     ensures { λ n. ⌜ Listed (now (input .entry)) (now (out .entry)) (now (out .exit)) n ⌝ }
 {
@@ -42,4 +43,13 @@ pub fn listing(input: &[u8], out: &mut [u8]) -> usize
         return text::put_count(out, 0, b"refused ", 1);
     }
     put_report(out, &input[4..], context_of(input))
+}
+
+// Inner: all that the program prints, in the first bytes of `out`; how many. `input` is its buffer, of which `read` bytes
+// were read: 4 of context, 2,364 of base, and one more, by which a longer base is seen.
+pub fn listing(input: &[u8], read: usize, out: &mut [u8]) -> usize
+    requires { ⌜ (length (now input) ≡ 2369) × (read ≤ 2369) × (768 ≤ length (now out)) ⌝ }
+    ensures { λ n. ⌜ WholeListed (now (input .entry)) read (now (out .entry)) (now (out .exit)) n ⌝ }
+{
+    put_listing(out, &input[..read])
 }

@@ -1,5 +1,4 @@
 // The text of a report. Each function writes its text from a place on and returns the place behind it.
-ghost use mathlib.Core.Path.{_≡_};
 ghost use Prim.Native.Nat.{_+_, _≤_};
 ghost use lib.ListN.{length};
 ghost use Rattle.release_list.specs.Text.{decimal, countText, entryText, lineText};
@@ -36,7 +35,7 @@ fn put_decimal(out: &mut [u8], at: usize, n: u8) -> usize
     at + 3
 }
 
-// A line of words and a number.
+// Inner: a line of words and a number.
 pub fn put_count(out: &mut [u8], at: usize, words: &[u8], n: u8) -> usize
     requires { ⌜ at + length (countText (now words) n) ≤ length (now out) ⌝ }
     ensures { λ r. ⌜ Written (countText (now (words .entry)) n) (now (out .entry)) at r (now (out .exit)) ⌝ }
@@ -82,7 +81,7 @@ fn put_line(out: &mut [u8], at: usize, p: u8, k: u8, group: &[u8]) -> usize
     put(out, end, b"\n")
 }
 
-// The lines of n parts of 13 bytes, from byte 0 on.
+// Inner: the lines of n parts of 13 bytes, from byte 0 on.
 pub fn put_lines(out: &mut [u8], parts: &[u8], n: u8) -> usize
     requires { ⌜ Parts (now parts) n × (length (linesText (now parts) n) ≤ length (now out)) ⌝ }
     ensures { λ r. ⌜ Written (linesText (now (parts .entry)) n) (now (out .entry)) 0 r (now (out .exit)) ⌝ }

@@ -39,16 +39,17 @@ clerk = 2
 abbrev pub permission : ℕ
 permission = 0
 
--- the context of minute m, day 0 and zone 0
-abbrev pub at : ℕ → Context
-at m = record { minute = m; day = 0; zone = 0 }
+-- the context of minute m, day d and zone z
+abbrev pub at : ℕ → ℕ → ℕ → Context
+at m d z = record { minute = m; day = d; zone = z }
 
 -- groups: user and role acted in of each entry
 abbrev pub managerAlone : List ℕ
 managerAlone = 0 ∷ manager ∷ []
 
-abbrev pub managerAndClerk : List ℕ
-managerAndClerk = 0 ∷ manager ∷ 2 ∷ clerk ∷ []
+-- the clerk is user 2 or user 3
+abbrev pub managerAndClerk : ℕ → List ℕ
+managerAndClerk u = 0 ∷ manager ∷ u ∷ clerk ∷ []
 
 abbrev pub buyerAndClerks : List ℕ
 buyerAndClerks = 1 ∷ buyer ∷ 2 ∷ clerk ∷ 3 ∷ clerk ∷ []

@@ -1,6 +1,7 @@
 use mathlib.Core.Path.{sym}
+use native.Mathlib.Omega.{arith}
 use lib.Seq.{length-take-le}
-use Rattle.release_list.proofs.Answered.{listed-within}
+use Rattle.release_list.proofs.Whole.{whole-within}
 use borrow.Author.Needs.{needs}
 use Rattle.release_list.proofs.main.Statement.{statement}
 use Rattle.release_list.proofs.main.Tie as tie
@@ -11,9 +12,6 @@ slice-aggregate-read-full c = search needs
 read-full-requires : tie.Need-read-full-requires
 read-full-requires c κs = search needs
 
-array-share-prefix-input : tie.Need-array-share-prefix-input
-array-share-prefix-input c = search needs
-
 slice-aggregate-listing : tie.Need-slice-aggregate-listing
 slice-aggregate-listing c = search needs
 
@@ -21,13 +19,13 @@ slice-aggregate-listing-2 : tie.Need-slice-aggregate-listing-2
 slice-aggregate-listing-2 c = search needs
 
 listing-requires : tie.Need-listing-requires
-listing-requires c κs = search needs
+listing-requires c κs = (omega arith, omega arith, search needs)
 
 array-share-prefix-out : tie.Need-array-share-prefix-out
-array-share-prefix-out c = listed-within (c .before .listing .ensures)
+array-share-prefix-out c = whole-within (c .before .before .before .before .before .read-full .ensures .0) (c .before .listing .ensures)
 
 slice-aggregate-write-all : tie.Need-slice-aggregate-write-all
-slice-aggregate-write-all c = sym (length-take-le _ _ (listed-within (c .before .before .listing .ensures)))
+slice-aggregate-write-all c = sym (length-take-le _ _ (whole-within (c .before .before .before .before .before .before .read-full .ensures .0) (c .before .before .listing .ensures)))
 
 write-all-requires : tie.Need-write-all-requires
 write-all-requires c κs = search needs
@@ -41,7 +39,6 @@ main-spec =
     (tie.spec
     slice-aggregate-read-full
     read-full-requires
-    array-share-prefix-input
     slice-aggregate-listing
     slice-aggregate-listing-2
     listing-requires
