@@ -22,7 +22,7 @@ use shown::RECORD;
 /// The answer to the base check that the library and the model agree on.
 pub fn agreed_check(base: &[u8]) -> u8 {
     let by_model = model::check(base);
-    let by_library = release::check(base);
+    let by_library = release::answers::check(base);
     assert!(
         by_library == u32::from(by_model),
         "model {by_model}, library {by_library}, base {}",
@@ -44,7 +44,7 @@ pub fn expect_check(base: &[u8], answer: u8) {
 /// The library's answer to a question about a base.
 pub fn library_decision(base: &[u8], asked: &Asked) -> u32 {
     let at = library_context(asked.at);
-    release::decide(base, asked.permission, at, &asked.group)
+    release::answers::decide(base, asked.permission, at, &asked.group)
 }
 
 /// The context as the library takes it.
@@ -86,7 +86,7 @@ pub fn agreed_conflicts(base: &[u8], lent: &mut Lent) -> model::Answer {
     let mut models = lent.clone();
     let by_model = model::conflicts(base, models.buffer());
     let base_before = base.to_vec();
-    let by_library = release::conflicts(base, lent.buffer());
+    let by_library = release::answers::conflicts(base, lent.buffer());
     let case = || format!("{} bytes lent, base {}", lent.length(), hex(&base_before));
     assert!(
         by_library.refusal == u32::from(by_model.refusal) && by_library.count == by_model.count,
@@ -130,7 +130,7 @@ pub fn agreed_report(base: &[u8], at: Context, lent: &mut Lent) -> model::Answer
     let mut models = lent.clone();
     let by_model = model::report(base, at, models.buffer());
     let base_before = base.to_vec();
-    let by_library = release::report(base, library_context(at), lent.buffer());
+    let by_library = release::answers::report(base, library_context(at), lent.buffer());
     let length = lent.length();
     let case = || format!("{length} bytes lent, {at:?}, base {}", hex(&base_before));
     assert!(

@@ -2,6 +2,7 @@
 
 use crate::answer::Answer;
 use crate::base::Base;
+use crate::reading::Reading;
 use crate::records::{Exclusion, Policy};
 use crate::refusal::Refusal;
 use crate::related::Relations;
@@ -14,11 +15,16 @@ pub type Conflict = [u8; 3];
 /// Writes the list of conflicts; later bytes keep their contents. Refusal 18
 /// carries the number of records, and no refusal writes.
 pub fn conflicts(base: &[u8], out: &mut [u8]) -> Answer {
+    conflicts_by(Reading::Paper, base, out)
+}
+
+/// The list by this reading.
+pub fn conflicts_by(reading: Reading, base: &[u8], out: &mut [u8]) -> Answer {
     let base = match Base::read(base) {
         Ok(base) => base,
         Err(refusal) => return Answer::refused(refusal),
     };
-    let list = conflict_list(&base);
+    let list = list_by(reading, &base);
     let bytes = list.concat();
     match out.get_mut(..bytes.len()) {
         Some(part) => part.copy_from_slice(&bytes),
@@ -29,14 +35,23 @@ pub fn conflicts(base: &[u8], out: &mut [u8]) -> Answer {
 
 /// All conflicts, by kind, then first, then second.
 pub fn conflict_list(base: &Base) -> Vec<Conflict> {
-    let relations = Relations::of(base);
-    let seniority = Seniority::of(base);
+    list_by(Reading::Paper, base)
+}
+
+fn list_by(reading: Reading, base: &Base) -> Vec<Conflict> {
+    let relations = Relations::by(reading, base);
+    let cover = Cover {
+        seniority: Seniority::of(base),
+        reading,
+    };
     let policy_conflicts = policy_pairs(base, 1, |one, other| {
-        is_policy_conflict(&relations, one, other)
+        one.role == other.role
+            && one.permission == other.permission
+            && disagree(reading, one, other)
+            && relations.related(one.context, other.context)
     });
     let constraint_conflicts = policy_pairs(base, 2, |one, other| {
-        are_exclusive(base, one.permission, other.permission)
-            && is_role_covered_by_both(&seniority, one, other)
+        are_exclusive(base, one.permission, other.permission) && cover.shared(one, other)
     });
     [policy_conflicts, constraint_conflicts, role_conflicts(base)].concat()
 }
@@ -58,12 +73,14 @@ fn policy_pairs(
     list
 }
 
-/// Kind 1 (004, rule 1): related policies of different weight or type.
-fn is_policy_conflict(relations: &Relations, one: &Policy, other: &Policy) -> bool {
-    one.role == other.role
-        && one.permission == other.permission
-        && (one.weight != other.weight || one.inheritable != other.inheritable)
-        && relations.related(one.context, other.context)
+/// Kind 1 (004, rule 1) is different weight or type.
+fn disagree(reading: Reading, one: &Policy, other: &Policy) -> bool {
+    let weight = one.weight != other.weight;
+    let kind = one.inheritable != other.inheritable;
+    match reading {
+        Reading::WeightAndType => weight && kind,
+        _ => weight || kind,
+    }
 }
 
 /// Whether two permissions, in either order, form an exclusion of kind 1.
@@ -74,15 +91,24 @@ fn are_exclusive(base: &Base, one: u8, other: u8) -> bool {
     })
 }
 
-/// Kind 2 (004, definition 15): policies of exclusive permissions with a role
-/// in common. Contexts play no part.
-fn is_role_covered_by_both(seniority: &Seniority, one: &Policy, other: &Policy) -> bool {
-    (0..MOST_ROLES).any(|role| covers(seniority, one, role) && covers(seniority, other, role))
+/// Which roles a policy covers.
+struct Cover {
+    seniority: Seniority,
+    reading: Reading,
 }
 
-/// A policy covers its role and, if its type is 1, that role's seniors.
-fn covers(seniority: &Seniority, policy: &Policy, role: Role) -> bool {
-    role == policy.role || (policy.inheritable && seniority.is_senior(role, policy.role))
+impl Cover {
+    /// Kind 2 (004, definition 15): policies of exclusive permissions with a
+    /// role in common. Contexts play no part.
+    fn shared(&self, one: &Policy, other: &Policy) -> bool {
+        (0..MOST_ROLES).any(|role| self.has(one, role) && self.has(other, role))
+    }
+
+    /// A policy covers its role and, if its type is 1, that role's seniors.
+    fn has(&self, policy: &Policy, role: Role) -> bool {
+        let upwards = policy.inheritable || self.reading == Reading::SeniorsCovered;
+        role == policy.role || (upwards && self.seniority.is_senior(role, policy.role))
+    }
 }
 
 /// Kind 3: a user and an exclusion of kind 0 of which the user holds both
@@ -263,6 +289,21 @@ mod tests {
         base.users.push(user(&[0, 1]));
         let expected = [[1, 0, 2], [2, 0, 1], [2, 1, 2], [3, 4, 1]];
         assert_eq!(conflict_list(&base), expected);
+    }
+
+    /// How many conflicts there are by the paper's reading and by this one.
+    fn counts(reading: Reading, base: &Base) -> [usize; 2] {
+        [Reading::Paper, reading].map(|reading| list_by(reading, base).len())
+    }
+
+    #[test]
+    fn the_wrong_readings_have_other_lists() {
+        let by_weight = with_policies(&[policy(1, 2, true, None), policy(1, 3, true, None)]);
+        assert_eq!(counts(Reading::WeightAndType, &by_weight), [1, 0]);
+        let no_clause = with_policies(&[policy(1, 2, true, Some(9)), policy(1, 3, true, Some(9))]);
+        assert_eq!(counts(Reading::RelatedToItself, &no_clause), [0, 1]);
+        let senior = exclusive(&[(0, 0, false), (2, 1, false)]);
+        assert_eq!(counts(Reading::SeniorsCovered, &senior), [0, 1]);
     }
 
     #[test]

@@ -31,7 +31,7 @@ mod weight;
 pub use answer::Answer;
 pub use base::Base;
 pub use check::check;
-pub use conflicts::{conflict_list, conflicts, Conflict};
+pub use conflicts::{conflict_list, conflicts, conflicts_by, Conflict};
 pub use context::Context;
 pub use decision::{decide, decide_by, Question};
 pub use group::{Attributes, Entry};

@@ -1,7 +1,8 @@
 //! How the rules are read.
 
-/// The paper's reading, or one of the wrong readings that it warns of. A test
-/// can take a wrong one to show that the comparison notices it.
+/// The paper's reading, or a wrong one: those that it warns of, and some of the
+/// conflict list. A test can take a wrong one to show that the comparison
+/// notices it.
 #[derive(Clone, Copy, Debug, Default, PartialEq, Eq)]
 pub enum Reading {
     #[default]
@@ -16,12 +17,20 @@ pub enum Reading {
     HeaviestUsers,
     /// Conditions met in different K clauses make one clause hold.
     MixedGroupClauses,
-    /// Conditions met in different C clauses make one clause hold.
+    /// Conditions met in different C clauses make one clause hold, and
+    /// parameters that fit in different clauses make two contexts related.
     MixedContextClauses,
+    /// A conflict of kind 1 needs different weight and different type.
+    WeightAndType,
+    /// A context number is related to itself though none of its clauses can
+    /// hold.
+    RelatedToItself,
+    /// A policy of type 0 covers the seniors of its role too.
+    SeniorsCovered,
 }
 
 impl Reading {
-    /// Every reading but the paper's.
+    /// The readings that the paper warns of.
     pub const WRONG: [Reading; 6] = [
         Reading::JuniorPerChain,
         Reading::OwnTwice,
@@ -29,6 +38,13 @@ impl Reading {
         Reading::HeaviestUsers,
         Reading::MixedGroupClauses,
         Reading::MixedContextClauses,
+    ];
+
+    /// Wrong readings that only the conflict list shows.
+    pub const WRONG_IN_LISTS: [Reading; 3] = [
+        Reading::WeightAndType,
+        Reading::RelatedToItself,
+        Reading::SeniorsCovered,
     ];
 }
 

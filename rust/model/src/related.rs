@@ -14,9 +14,18 @@ pub struct Relations([[bool; NUMBERS]; NUMBERS]);
 
 impl Relations {
     pub fn of(base: &Base) -> Relations {
+        Relations::by(Reading::Paper, base)
+    }
+
+    /// The relations by this reading.
+    pub fn by(reading: Reading, base: &Base) -> Relations {
         let clauses: [_; NUMBERS] = std::array::from_fn(|place| clauses_at(base, place));
         Relations(std::array::from_fn(|first| {
-            std::array::from_fn(|second| some_fit(&clauses[first], &clauses[second]))
+            std::array::from_fn(|second| match reading {
+                Reading::RelatedToItself if first == second => true,
+                Reading::MixedContextClauses => parts_fit(&clauses[first], &clauses[second]),
+                _ => some_fit(&clauses[first], &clauses[second]),
+            })
         }))
     }
 
@@ -50,17 +59,30 @@ fn some_fit(first: &[Clause], second: &[Clause]) -> bool {
         .any(|one| second.iter().any(|other| fit(one, other)))
 }
 
+/// What the wrong reading asks: for each parameter, some clauses that fit.
+fn parts_fit(first: &[Clause], second: &[Clause]) -> bool {
+    Parameter::ALL.iter().all(|&parameter| {
+        first
+            .iter()
+            .any(|one| second.iter().any(|other| fit_on(parameter, one, other)))
+    })
+}
+
 /// Whether two clauses can hold together. Each condition reads one parameter,
 /// so each parameter can be tried for itself.
 fn fit(one: Clause, other: Clause) -> bool {
-    Parameter::ALL.iter().all(|&parameter| {
-        let both = one.iter().chain(other);
-        let on_it: Vec<&ContextCondition> = both
-            .filter(|condition| condition.parameter == parameter)
-            .collect();
-        let mut values = 0..=u32::from(parameter.last());
-        values.any(|value| on_it.iter().all(|condition| condition.allows(value)))
-    })
+    let mut parameters = Parameter::ALL.iter();
+    parameters.all(|&parameter| fit_on(parameter, one, other))
+}
+
+/// Whether some value of a parameter meets the conditions of both on it.
+fn fit_on(parameter: Parameter, one: Clause, other: Clause) -> bool {
+    let both = one.iter().chain(other);
+    let on_it: Vec<&ContextCondition> = both
+        .filter(|condition| condition.parameter == parameter)
+        .collect();
+    let mut values = 0..=u32::from(parameter.last());
+    values.any(|value| on_it.iter().all(|condition| condition.allows(value)))
 }
 
 impl ContextCondition {
@@ -184,6 +206,20 @@ mod tests {
         let other: [Sketch; 2] = [(Minute, Less, 700), (Zone, Equal, 2)];
         assert!(!related(&base(&[&one, &other]), Some(0), Some(1)));
         assert!(related(&base(&[&one, &other[..1]]), Some(0), Some(1)));
+    }
+
+    /// Day 1 fits the first clause of context 0, zone 2 the second.
+    #[test]
+    fn fits_in_different_clauses_do_not_join() {
+        let mut base = base(&[
+            &[(Day, Equal, 1), (Zone, Equal, 1)],
+            &[(Day, Equal, 1), (Zone, Equal, 2)],
+            &[(Day, Equal, 2), (Zone, Equal, 2)],
+        ]);
+        base.context_clauses[2].context = 0;
+        assert!(!related(&base, Some(0), Some(1)));
+        let mixed = Relations::by(Reading::MixedContextClauses, &base);
+        assert!(mixed.related(Some(0), Some(1)));
     }
 
     #[test]

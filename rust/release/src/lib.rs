@@ -1,134 +1,72 @@
-//! The library's entry points as safe Rust functions.
+//! The release decider for shelf labels: a safe wrapper over the proved
+//! library.
+//!
+//! A policy base says who may act in which role, what each role weighs for a
+//! permission, and which groups may release it. The library answers four
+//! questions about a base, for any bytes whatever:
+//!
+//! | function | question |
+//! |---|---|
+//! | [`check`] | is this a base? |
+//! | [`decide`], [`decide_bytes`] | may this group release this permission? |
+//! | [`report`], [`report_into`] | which smallest group can release each permission? |
+//! | [`conflicts`], [`conflicts_into`], [`conflict_count`] | which records of the base conflict? |
+//!
+//! The answer is the result, or the first [`Refusal`] that applies. A refused
+//! call writes nothing.
+//!
+//! ```
+//! use release::example::SMALL_SHOP;
+//! use release::{decide, Context, Entry, Refusal};
+//!
+//! let by_day = Context::new(600, 0, 0);
+//! let manager = Entry::new(0, 0);
+//! let clerk = Entry::new(2, 2);
+//! assert_eq!(decide(&SMALL_SHOP, 0, by_day, &[manager, clerk]), Ok(()));
+//! assert_eq!(decide(&SMALL_SHOP, 0, by_day, &[manager]), Err(Refusal::Condition));
+//! ```
+//!
+//! Nothing is kept between calls, so any number of threads may call at once.
+//! A report takes about 500,000 bytes of stack, every other call less than
+//! 4,096: a thread with 1 MiB suffices.
+//!
+//! The static library is built by `rt staticlib exports` before this crate.
 
-mod raw {
-    unsafe extern "C" {
-        pub fn release_check(base: *const u8, len: usize) -> u32;
+#![deny(missing_docs)]
+#![deny(unsafe_op_in_unsafe_fn)]
+#![deny(unsafe_code)]
 
-        pub fn release_decide(
-            base: *const u8,
-            base_len: usize,
-            permission: u32,
-            minute: u32,
-            day: u32,
-            zone: u32,
-            group: *const u8,
-            group_len: usize,
-        ) -> u32;
+pub mod answers;
+mod conflicts;
+mod context;
+mod decision;
+pub mod example;
+#[allow(unsafe_code)]
+mod library;
+mod refusal;
+mod report;
 
-        pub fn release_report(
-            base: *const u8,
-            base_len: usize,
-            minute: u32,
-            day: u32,
-            zone: u32,
-            out: *mut u8,
-            out_len: usize,
-        ) -> u64;
+pub use conflicts::{conflict_count, conflicts, conflicts_into, Conflict, CONFLICT_BYTES};
+pub use context::Context;
+pub use decision::{decide, decide_bytes, Entry};
+pub use refusal::Refusal;
+pub use report::{
+    permissions, report, report_into, Permission, Report, LONGEST_REPORT, PERMISSION_BYTES,
+};
 
-        pub fn release_conflicts(
-            base: *const u8,
-            base_len: usize,
-            out: *mut u8,
-            out_len: usize,
-        ) -> u64;
-    }
-}
+/// The most bytes that a base can have.
+pub const LONGEST_BASE: usize = 2_364;
 
-/// A time and a place. Any numbers can be handed in.
-#[derive(Clone, Copy, Debug, PartialEq, Eq)]
-pub struct Context {
-    pub minute: u32,
-    pub day: u32,
-    pub zone: u32,
-}
-
-/// 0 or a refusal's number, and the number that the answer carries.
-#[derive(Clone, Copy, Debug, PartialEq, Eq)]
-pub struct Answer {
-    pub refusal: u32,
-    pub count: u32,
-}
-
-impl Answer {
-    /// The answer in refusal + 256 * count.
-    fn from_number(number: u64) -> Answer {
-        let count = u32::try_from(number / 256).expect("the count has 4 bytes at most");
-        Answer {
-            refusal: (number % 256) as u32,
-            count,
-        }
-    }
-}
-
-/// The base check: 0, or the first of refusals 1 to 9 that applies.
-pub fn check(base: &[u8]) -> u32 {
-    // SAFETY: the pointer and length are those of a slice, which the library
-    // only reads, and only during the call.
-    unsafe { raw::release_check(base.as_ptr(), base.len()) }
-}
-
-/// The decision for a group: 0 if it is granted the permission, or the first
-/// of refusals 1 to 17 that applies.
-pub fn decide(base: &[u8], permission: u32, at: Context, group: &[u8]) -> u32 {
-    // SAFETY: the pointers and lengths are those of two slices, which the
-    // library only reads, and only during the call.
-    unsafe {
-        raw::release_decide(
-            base.as_ptr(),
-            base.len(),
-            permission,
-            at.minute,
-            at.day,
-            at.zone,
-            group.as_ptr(),
-            group.len(),
-        )
-    }
-}
-
-/// Writes 13 bytes for each permission into the buffer's first bytes: the
-/// number of a smallest group's entries, the group and 255 in every byte left.
-/// The answer is 0 and the number of permissions that have a group, or the
-/// first of refusals 1 to 9, 11 and 19 that applies and 0. No refusal writes.
-pub fn report(base: &[u8], at: Context, out: &mut [u8]) -> Answer {
-    // SAFETY: the pointers and lengths are those of two slices that don't
-    // overlap. The library only reads the first and writes the second within
-    // its length, and only during the call.
-    let number = unsafe {
-        raw::release_report(
-            base.as_ptr(),
-            base.len(),
-            at.minute,
-            at.day,
-            at.zone,
-            out.as_mut_ptr(),
-            out.len(),
-        )
-    };
-    Answer::from_number(number)
-}
-
-/// Writes the list of conflicts, 3 bytes each, into the buffer's first bytes.
-/// The answer is 0 and their number, 18 and the number that would be written,
-/// or the first of refusals 1 to 9 that applies and 0. No refusal writes.
-pub fn conflicts(base: &[u8], out: &mut [u8]) -> Answer {
-    // SAFETY: the pointers and lengths are those of two slices that don't
-    // overlap. The library only reads the first and writes the second within
-    // its length, and only during the call.
-    let number =
-        unsafe { raw::release_conflicts(base.as_ptr(), base.len(), out.as_mut_ptr(), out.len()) };
-    Answer::from_number(number)
-}
-
-#[cfg(test)]
-mod tests {
-    use super::*;
-
-    #[test]
-    fn an_answer_is_a_refusal_and_a_count() {
-        let answer = |refusal, count| Answer { refusal, count };
-        assert_eq!(Answer::from_number(0), answer(0, 0));
-        assert_eq!(Answer::from_number(9), answer(9, 0));
-        assert_eq!(Answer::from_number(18 + 256 * 2688), answer(18, 2688));
-    }
+/// Whether these bytes are a policy base: the first of refusals 1 to 9 that
+/// applies, if one does.
+///
+/// ```
+/// use release::example::SMALL_SHOP;
+/// use release::{check, Refusal};
+///
+/// assert_eq!(check(&SMALL_SHOP), Ok(()));
+/// assert_eq!(check(&SMALL_SHOP[..35]), Err(Refusal::Length));
+/// ```
+pub fn check(base: &[u8]) -> Result<(), Refusal> {
+    refusal::result_of(answers::check(base))
 }

@@ -84,7 +84,7 @@ fn each_permission_has_its_own_part() {
 fn a_record_of_six_entries_has_no_byte_left() {
     let mut out = [7; 16 * RECORD];
     let at = library_context(at_minute(600));
-    let answer = release::report(&one_number_each().bytes(), at, &mut out);
+    let answer = release::answers::report(&one_number_each().bytes(), at, &mut out);
     assert_eq!((answer.refusal, answer.count), (0, 6));
     let record = &out[6 * RECORD..7 * RECORD];
     assert_eq!(record, [6, 0, 0, 1, 0, 2, 0, 3, 0, 4, 0, 5, 0]);
@@ -95,8 +95,8 @@ fn a_record_of_six_entries_has_no_byte_left() {
 fn a_report_over_a_report_is_the_same() {
     let (base, at) = (one_number_each().bytes(), library_context(at_minute(600)));
     let mut out = [7; 16 * RECORD];
-    let first = release::report(&base, at, &mut out);
+    let first = release::answers::report(&base, at, &mut out);
     let written = out;
-    assert_eq!(release::report(&base, at, &mut out), first);
+    assert_eq!(release::answers::report(&base, at, &mut out), first);
     assert_eq!(out, written);
 }

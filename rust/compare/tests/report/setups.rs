@@ -33,7 +33,7 @@ pub fn expect_only_group(base: &BaseBuilder, group: &[[u8; 2]]) {
     expected[0] = k;
     expected[1..1 + 2 * group.len()].copy_from_slice(&group.concat());
     let mut found = [0; RECORD];
-    release::report(&base.bytes(), library_context(at_minute(600)), &mut found);
+    release::answers::report(&base.bytes(), library_context(at_minute(600)), &mut found);
     assert_eq!(found, expected);
 }
 

@@ -12,7 +12,7 @@ fn early_manager_and_buyer_are_the_only_group() {
     expect_numbers_at(480, &small_shop(), &[2]);
     let mut record = [7; 13];
     let at = library_context(at_minute(480));
-    let answer = release::report(&small_shop().bytes(), at, &mut record);
+    let answer = release::answers::report(&small_shop().bytes(), at, &mut record);
     assert_eq!((answer.refusal, answer.count), (0, 1));
     assert_eq!(record[..5], [2, 0, 0, 1, 1]);
     assert_eq!(record[5..], [255; 8]);

@@ -1,0 +1,173 @@
+/*
+ * The release decider for shelf labels: its C interface.
+ *
+ * The functions are in libexports.a, which `rt staticlib exports` proves and
+ * builds (target/staticlib/libexports.a, for x86-64 Linux):
+ *
+ *     cc -Iinclude program.c target/staticlib/libexports.a
+ *
+ * Answers. Each call takes any bytes whatever and gives one answer: 0 (granted
+ * or done), or the number of the first refusal that applies, in the order of
+ * enum release_refusal. A refused call writes nothing. An answer depends on
+ * the arguments alone.
+ *
+ * Pointers. A slice passes as a pointer and its length in bytes.
+ * - The pointer is valid for that length: base and group to read, out to read
+ *   and write. It needs no alignment. Nothing beyond the length is read or
+ *   written.
+ * - With length 0 the pointer may be anything, NULL too: it isn't followed.
+ *   With a length above 0 it isn't NULL; nothing checks that.
+ * - base and out don't overlap. base and group may.
+ * - Nobody else writes the bytes during the call, and nobody else reads out.
+ * The library keeps no pointer when the call has returned.
+ *
+ * Threads. There is no state between calls and nothing is allocated. Any
+ * number of threads may call at once, also with the same base, each with a
+ * buffer of its own.
+ *
+ * Stack. release_report takes about 500,000 bytes, every other call less than
+ * 4,096. A thread with 1 MiB of stack suffices for each.
+ */
+#ifndef RELEASE_H
+#define RELEASE_H
+
+#include <stddef.h>
+#include <stdint.h>
+
+/* A policy base has 36 to 2,364 bytes. */
+#define RELEASE_SHORTEST_BASE 36
+#define RELEASE_LONGEST_BASE 2364
+
+/* A group has 1 to 6 entries of 2 bytes: user, role acted in. */
+#define RELEASE_ENTRY_BYTES 2
+#define RELEASE_MOST_ENTRIES 6
+
+/* A report has 13 bytes a permission, and a base at most 16 permissions. */
+#define RELEASE_PERMISSION_BYTES 13
+#define RELEASE_MOST_PERMISSIONS 16
+#define RELEASE_LONGEST_REPORT (RELEASE_PERMISSION_BYTES * RELEASE_MOST_PERMISSIONS)
+
+/* A conflict list has 3 bytes a conflict: kind, first, second. */
+#define RELEASE_CONFLICT_BYTES 3
+
+/* The refusals, in checking order. The tables of a base are H (hierarchy),
+   U (users), P (permissions), K (group clauses), C (context clauses),
+   A (policies) and X (exclusions); R is the number of roles. */
+enum release_refusal {
+    /* No refusal: granted or done. */
+    RELEASE_DONE = 0,
+    /* The base is shorter than 36 or longer than 2,364 bytes. */
+    RELEASE_REFUSAL_LENGTH = 1,
+    /* The base's last four bytes aren't LCAP. */
+    RELEASE_REFUSAL_LETTERS = 2,
+    /* The rest of the trailer breaks its rules, a count is above its limit,
+       or the tables don't fill the bytes before it in order. */
+    RELEASE_REFUSAL_TRAILER = 3,
+    /* An H record has senior not below junior, or junior not below R. */
+    RELEASE_REFUSAL_HIERARCHY = 4,
+    /* A user's parameter is no product of different codes of roles below R. */
+    RELEASE_REFUSAL_USERS = 5,
+    /* A K record breaks its rules or names a permission that isn't in P. */
+    RELEASE_REFUSAL_GROUP_CLAUSES = 6,
+    /* A C record breaks its rules. */
+    RELEASE_REFUSAL_CONTEXT_CLAUSES = 7,
+    /* An A record breaks its rules, or its role or permission isn't there. */
+    RELEASE_REFUSAL_POLICIES = 8,
+    /* An X record breaks its rules, or its b isn't a role or permission
+       there. */
+    RELEASE_REFUSAL_EXCLUSIONS = 9,
+    /* The permission isn't in P. */
+    RELEASE_REFUSAL_NO_PERMISSION = 10,
+    /* Minute, day or zone is out of range. */
+    RELEASE_REFUSAL_CONTEXT = 11,
+    /* The group's length is 0, odd or above 12. */
+    RELEASE_REFUSAL_GROUP_LENGTH = 12,
+    /* An entry's user isn't in U, or its role isn't below R. */
+    RELEASE_REFUSAL_NO_USER_OR_ROLE = 13,
+    /* A user stands in two entries. */
+    RELEASE_REFUSAL_USER_TWICE = 14,
+    /* An entry's user doesn't hold its role. */
+    RELEASE_REFUSAL_MEMBERSHIP = 15,
+    /* An entry's role has weight 0 for the permission. */
+    RELEASE_REFUSAL_NO_WEIGHT = 16,
+    /* The permission's condition doesn't hold. */
+    RELEASE_REFUSAL_CONDITION = 17,
+    /* The buffer is shorter than 3 times the number of conflicts. */
+    RELEASE_REFUSAL_CONFLICT_BUFFER = 18,
+    /* The buffer is shorter than 13 times the number of permissions. */
+    RELEASE_REFUSAL_REPORT_BUFFER = 19
+};
+
+#ifdef __cplusplus
+extern "C" {
+#endif
+
+/*
+ * The base check: 0, or the first of refusals 1 to 9 that applies.
+ */
+uint32_t release_check(const uint8_t *base, size_t base_len);
+
+/*
+ * The decision for one group: 0 if it is granted the permission, or the first
+ * of refusals 1 to 17 that applies. The permission is its number in P, from 0
+ * on. The context is a minute (0 to 1439), a day (0 to 6) and a zone (0 to
+ * 255). Numbers aren't cut: permission 256 is refused by 10, zone 256 by 11.
+ * The group is its entries' bytes, in any order.
+ */
+uint32_t release_decide(const uint8_t *base, size_t base_len,
+                        uint32_t permission,
+                        uint32_t minute, uint32_t day, uint32_t zone,
+                        const uint8_t *group, size_t group_len);
+
+/*
+ * The release report: refusal + 256 * count. The refusal is 0, or the first of
+ * 1 to 9, 11 and 19 that applies; the count is the number of permissions that
+ * some group is granted, and 0 if refused.
+ *
+ * Of 0, the first 13 bytes of out are permission 0's, the next 13 permission
+ * 1's and so on: the number k of approvers (0 to 6), then the k entries of a
+ * group that is granted, by rising user, and 255 in every byte left. No group
+ * with fewer entries is granted; with k = 0 no group is. Later bytes of out
+ * keep their contents.
+ *
+ * A buffer of RELEASE_LONGEST_REPORT bytes suffices for every base. If it was
+ * filled with 255, a part that was written is told by its first byte, which is
+ * at most 6.
+ */
+uint64_t release_report(const uint8_t *base, size_t base_len,
+                        uint32_t minute, uint32_t day, uint32_t zone,
+                        uint8_t *out, size_t out_len);
+
+/*
+ * The conflict list: refusal + 256 * count. The refusal is 0, or the first of
+ * 1 to 9 and 18 that applies. The count is the number of conflicts: those
+ * written or, of 18, those that would be. Of refusals 1 to 9 it is 0. So a
+ * call with length 0 tells how many there are.
+ *
+ * Of 0, out starts with the list, by kind, then first, then second:
+ * - kind 1: two policies of equal role and permission, whose contexts can hold
+ *   together, with different weight or type;
+ * - kind 2: two policies for permissions that exclude each other, and some
+ *   role is covered by both;
+ * - kind 3: a user, and an exclusion whose two roles that user holds.
+ * First and second are the records' numbers in A, of kind 3 in U and X. Later
+ * bytes of out keep their contents.
+ */
+uint64_t release_conflicts(const uint8_t *base, size_t base_len,
+                           uint8_t *out, size_t out_len);
+
+/* The refusal in an answer of release_report or release_conflicts. */
+static inline uint32_t release_answer_refusal(uint64_t answer) {
+    return (uint32_t)(answer % 256);
+}
+
+/* The count in an answer of release_report or release_conflicts. */
+static inline uint32_t release_answer_count(uint64_t answer) {
+    return (uint32_t)(answer / 256);
+}
+
+#ifdef __cplusplus
+}
+#endif
+
+#endif

@@ -1,0 +1,30 @@
+//! Compares the four calls on many random bases, sound and damaged, and shows
+//! that each wrong reading of the rules would be noticed.
+
+mod checks;
+mod conflicts;
+mod decisions;
+mod readings;
+mod reports;
+mod seen;
+
+use std::time::{Duration, Instant};
+
+use seen::Seen;
+
+/// All of it is done in this time.
+const LONGEST: Duration = Duration::from_secs(180);
+
+#[test]
+fn seeded_comparison() {
+    let start = Instant::now();
+    let mut seen = Seen::default();
+    checks::compare(&mut seen);
+    decisions::compare(&mut seen);
+    reports::compare(&mut seen);
+    conflicts::compare(&mut seen);
+    let taken = start.elapsed();
+    seen.print(taken);
+    seen.expect_all();
+    assert!(taken <= LONGEST, "the comparison took {taken:?}");
+}

@@ -1,0 +1,117 @@
+//! How often each answer, number of approvers and kind of conflict was seen.
+
+use std::io::Write;
+use std::time::Duration;
+
+use compare::tally::Tally;
+
+/// The library's calls.
+#[derive(Clone, Copy)]
+pub enum Call {
+    Check,
+    Decide,
+    Report,
+    Conflicts,
+}
+
+const NAMES: [&str; 4] = ["check", "decide", "report", "conflicts"];
+
+/// The answers that each call can give.
+const ANSWERS: [&[u8]; 4] = [
+    &[0, 1, 2, 3, 4, 5, 6, 7, 8, 9],
+    &[0, 1, 2, 3, 4, 5, 6, 7, 8, 9, 10, 11, 12, 13, 14, 15, 16, 17],
+    &[0, 1, 2, 3, 4, 5, 6, 7, 8, 9, 11, 19],
+    &[0, 1, 2, 3, 4, 5, 6, 7, 8, 9, 18],
+];
+
+const NUMBERS: &[u8] = &[0, 1, 2, 3, 4, 5, 6];
+const KINDS: &[u8] = &[1, 2, 3];
+
+/// The fewest cases of each call: 200,000 and more in all.
+const FEWEST: [usize; 4] = [100_000, 150_000, 20_000, 40_000];
+
+#[derive(Default)]
+pub struct Seen {
+    answers: [Tally<20>; 4],
+    numbers: Tally<7>,
+    kinds: Tally<4>,
+    most_conflicts: u32,
+}
+
+impl Seen {
+    /// Notes an answer to a call, 0 or a refusal's number: one case.
+    pub fn answer(&mut self, call: Call, answer: u8) {
+        self.answers[call as usize].add(answer);
+    }
+
+    /// Notes the numbers of approvers in a report.
+    pub fn numbers(&mut self, numbers: &[u8]) {
+        numbers.iter().for_each(|k| self.numbers.add(*k));
+    }
+
+    /// Notes the conflicts in a list, 3 bytes each.
+    pub fn conflicts(&mut self, list: &[u8]) {
+        let kinds = list.iter().step_by(3);
+        kinds.for_each(|kind| self.kinds.add(*kind));
+        self.most_conflicts = self.most_conflicts.max(list.len() as u32 / 3);
+    }
+
+    fn cases(&self) -> usize {
+        self.answers.iter().map(Tally::total).sum()
+    }
+
+    /// Prints all of it, also where the tests' output is kept back.
+    pub fn print(&self, taken: Duration) {
+        let head = line("answer", NAMES.map(str::to_string), "in all");
+        let answers = (0..20).map(|answer| {
+            let seen = self.answers.each_ref().map(|tally| tally.seen(answer));
+            row(&answer.to_string(), seen)
+        });
+        let totals = row("in all", self.answers.each_ref().map(Tally::total));
+        let numbers = NUMBERS.iter().map(|k| counted("k =", &self.numbers, *k));
+        let kinds = KINDS.iter().map(|kind| counted("kind", &self.kinds, *kind));
+        let last = format!(
+            "{} cases in {:.1} seconds, at most {} conflicts in one list",
+            self.cases(),
+            taken.as_secs_f64(),
+            self.most_conflicts
+        );
+        let lines: Vec<String> = std::iter::once(head)
+            .chain(answers)
+            .chain([totals])
+            .chain(numbers)
+            .chain(kinds)
+            .chain([last])
+            .collect();
+        let text = format!("\n{}\n", lines.join("\n"));
+        let printed = std::io::stdout().write_all(text.as_bytes());
+        printed.expect("standard output takes it");
+    }
+
+    /// Asserts that there were enough cases, and everything among them.
+    pub fn expect_all(&self) {
+        for call in 0..4 {
+            let (tally, name) = (&self.answers[call], NAMES[call]);
+            tally.expect_exactly(&format!("{name}: answer"), ANSWERS[call]);
+            assert!(tally.total() >= FEWEST[call], "{name}: too few cases");
+        }
+        self.numbers.expect_exactly("k =", NUMBERS);
+        self.kinds.expect_exactly("kind", KINDS);
+        assert!(self.most_conflicts > 1_000, "no long list");
+    }
+}
+
+/// A line of the table: a name, the four calls and their sum.
+fn line(name: &str, calls: [String; 4], all: &str) -> String {
+    let [check, decide, report, conflicts] = calls;
+    format!("{name:>6} {check:>9} {decide:>9} {report:>9} {conflicts:>9} {all:>9}")
+}
+
+fn row(name: &str, seen: [usize; 4]) -> String {
+    let all: usize = seen.iter().sum();
+    line(name, seen.map(|count| count.to_string()), &all.to_string())
+}
+
+fn counted<const NUMBERS: usize>(name: &str, tally: &Tally<NUMBERS>, number: u8) -> String {
+    format!("{name} {number}: {} times", tally.seen(number))
+}

@@ -1,0 +1,124 @@
+//! The wrapper's typed functions say what the library's own answers say.
+
+use compare::builder::BaseBuilder;
+use compare::cases::*;
+use compare::clashing::clashing_base;
+use compare::questions::{at_minute, Asked};
+use compare::random::Random;
+use compare::shop::small_shop;
+use compare::{library_context, permission_count};
+use release::answers::{self, Answer};
+use release::example::SMALL_SHOP;
+use release::{Context, Entry, Permission, Refusal, Report};
+
+/// A result's refusal as a number, 0 for none.
+fn number<T>(result: &Result<T, Refusal>) -> u32 {
+    result.as_ref().err().map_or(0, |refusal| refusal.number())
+}
+
+/// A result as the answer that it stands for.
+fn answer<T>(result: &Result<T, Refusal>, count: impl Fn(&T) -> usize) -> Answer {
+    Answer {
+        refusal: number(result),
+        count: result.as_ref().map_or(0, count) as u32,
+    }
+}
+
+fn expect_check(base: &[u8]) {
+    assert_eq!(number(&release::check(base)), answers::check(base));
+}
+
+fn expect_decision(base: &[u8], at: Context, asked: &Asked) {
+    let expected = answers::decide(base, asked.permission, at, &asked.group);
+    let decided = release::decide_bytes(base, asked.permission, at, &asked.group);
+    assert_eq!(number(&decided), expected);
+    let pairs = asked.group.chunks_exact(2);
+    if pairs.remainder().is_empty() {
+        let group: Vec<Entry> = pairs.map(|pair| Entry::new(pair[0], pair[1])).collect();
+        let decided = release::decide(base, asked.permission, at, &group);
+        assert_eq!(number(&decided), expected);
+    }
+}
+
+/// The bytes that a report's permissions have by what they say.
+fn told(report: &Report) -> Vec<u8> {
+    let part = |permission: Permission| {
+        let mut part = vec![permission.approvers() as u8];
+        part.extend(permission.entries().flat_map(Entry::bytes));
+        part.resize(release::PERMISSION_BYTES, 255);
+        part
+    };
+    report.permissions().flat_map(part).collect()
+}
+
+fn expect_report(base: &[u8], at: Context) {
+    let mut out = vec![0; release::PERMISSION_BYTES * permission_count(base)];
+    let expected = answers::report(base, at, &mut out);
+    let reported = release::report(base, at);
+    assert_eq!(answer(&reported, Report::count), expected);
+    if let Ok(report) = reported {
+        assert_eq!(report.bytes(), out);
+        assert_eq!(told(&report), out);
+        assert!(report
+            .permissions()
+            .map(|p| p.number())
+            .eq(0..out.len() as u32 / 13));
+    }
+    out.fill(7);
+    let written = release::report_into(base, at, &mut out);
+    assert_eq!(answer(&written, |count| *count), expected);
+}
+
+fn expect_conflicts(base: &[u8]) {
+    let mut out = vec![0; 8_400];
+    let expected = answers::conflicts(base, &mut out);
+    let listed = release::conflicts(base);
+    assert_eq!(answer(&listed, Vec::len), expected);
+    let count = release::conflict_count(base);
+    assert_eq!(answer(&count, |count| *count), expected);
+    if let Ok(list) = listed {
+        let bytes: Vec<u8> = list.iter().flat_map(|conflict| conflict.bytes()).collect();
+        assert_eq!(bytes, out[..bytes.len()]);
+        assert!(list.is_sorted_by(|one, other| one < other));
+    }
+}
+
+fn expect_all(base: &[u8], asked: &Asked) {
+    let at = library_context(asked.at);
+    expect_check(base);
+    expect_decision(base, at, asked);
+    expect_report(base, at);
+    expect_conflicts(base);
+}
+
+#[test]
+fn sound_bases() {
+    lively_bases(81, 100, expect_all);
+    full_bases(82, 10, expect_all);
+    valid_bases(83, 100, expect_all);
+}
+
+#[test]
+fn other_bytes() {
+    damaged_bases(84, 200, expect_all);
+    loose_bytes(85, 2_000, expect_all);
+}
+
+#[test]
+fn many_conflicts() {
+    let mut random = Random::new(86);
+    let bases = std::iter::repeat_with(|| clashing_base(&mut random).bytes());
+    bases.take(1_000).for_each(|base| expect_conflicts(&base));
+}
+
+#[test]
+fn the_shortest_base_and_no_bytes() {
+    for base in [BaseBuilder::new(1).bytes(), vec![]] {
+        expect_all(&base, &Asked::new(0, at_minute(0), &[]));
+    }
+}
+
+#[test]
+fn the_example_is_the_papers() {
+    assert_eq!(small_shop().bytes(), SMALL_SHOP);
+}

@@ -1,0 +1,117 @@
+//! The same calls with the library's own answers: a refusal's number, and the
+//! count beside it. They lend the library the caller's buffers as they are.
+
+use crate::context::Context;
+use crate::library;
+use crate::refusal::{result_of, Refusal};
+
+/// 0 or a refusal's number, and the number that the answer carries.
+#[derive(Clone, Copy, Debug, PartialEq, Eq, Hash)]
+pub struct Answer {
+    /// 0 for done, or the refusal's number.
+    pub refusal: u32,
+    /// What was counted; of most refusals 0.
+    pub count: u32,
+}
+
+impl Answer {
+    /// The answer in refusal + 256 * count.
+    fn from_number(number: u64) -> Answer {
+        let count = u32::try_from(number / 256).expect("the count has 4 bytes at most");
+        Answer {
+            refusal: (number % 256) as u32,
+            count,
+        }
+    }
+
+    /// The count, or the refusal.
+    pub(crate) fn counted(self) -> Result<usize, Refusal> {
+        result_of(self.refusal)?;
+        Ok(self.count as usize)
+    }
+}
+
+/// The base check: 0, or the first of refusals 1 to 9 that applies.
+///
+/// ```
+/// use release::answers;
+/// use release::example::SMALL_SHOP;
+///
+/// assert_eq!(answers::check(&SMALL_SHOP), 0);
+/// assert_eq!(answers::check(&[0; 36]), 2);
+/// ```
+pub fn check(base: &[u8]) -> u32 {
+    library::check(base)
+}
+
+/// The decision for a group: 0 if it is granted the permission, or the first
+/// of refusals 1 to 17 that applies.
+///
+/// ```
+/// use release::example::SMALL_SHOP;
+/// use release::{answers, Context};
+///
+/// let at = Context::new(600, 0, 0);
+/// assert_eq!(answers::decide(&SMALL_SHOP, 0, at, &[0, 0, 2, 2]), 0);
+/// assert_eq!(answers::decide(&SMALL_SHOP, 256, at, &[0, 0, 2, 2]), 10);
+/// ```
+pub fn decide(base: &[u8], permission: u32, at: Context, group: &[u8]) -> u32 {
+    library::decide(base, permission, at, group)
+}
+
+/// Writes 13 bytes for each permission into the buffer's first bytes: the
+/// number of a smallest group's entries, the group and 255 in every byte left.
+/// The answer is 0 and the number of permissions that have a group, or the
+/// first of refusals 1 to 9, 11 and 19 that applies and 0. No refusal writes.
+///
+/// ```
+/// use release::answers::{self, Answer};
+/// use release::example::SMALL_SHOP;
+/// use release::Context;
+///
+/// let at = Context::new(480, 0, 0);
+/// let mut out = [7; 14];
+/// let done = Answer { refusal: 0, count: 1 };
+/// assert_eq!(answers::report(&SMALL_SHOP, at, &mut out), done);
+/// assert_eq!(out, [2, 0, 0, 1, 1, 255, 255, 255, 255, 255, 255, 255, 255, 7]);
+///
+/// let refused = Answer { refusal: 19, count: 0 };
+/// assert_eq!(answers::report(&SMALL_SHOP, at, &mut out[..12]), refused);
+/// ```
+pub fn report(base: &[u8], at: Context, out: &mut [u8]) -> Answer {
+    Answer::from_number(library::report(base, at, out))
+}
+
+/// Writes the list of conflicts, 3 bytes each, into the buffer's first bytes.
+/// The answer is 0 and their number, 18 and the number that would be written,
+/// or the first of refusals 1 to 9 that applies and 0. No refusal writes.
+///
+/// ```
+/// use release::answers::{self, Answer};
+/// use release::example::SMALL_SHOP;
+///
+/// let none = Answer { refusal: 0, count: 0 };
+/// assert_eq!(answers::conflicts(&SMALL_SHOP, &mut []), none);
+///
+/// // The manager's policy made a second one of the buyer.
+/// let mut shop = SMALL_SHOP;
+/// shop[54] = 1;
+/// let too_short = Answer { refusal: 18, count: 1 };
+/// assert_eq!(answers::conflicts(&shop, &mut []), too_short);
+/// ```
+pub fn conflicts(base: &[u8], out: &mut [u8]) -> Answer {
+    Answer::from_number(library::conflicts(base, out))
+}
+
+#[cfg(test)]
+mod tests {
+    use super::*;
+
+    #[test]
+    fn an_answer_is_a_refusal_and_a_count() {
+        let answer = |refusal, count| Answer { refusal, count };
+        assert_eq!(Answer::from_number(0), answer(0, 0));
+        assert_eq!(Answer::from_number(9), answer(9, 0));
+        assert_eq!(Answer::from_number(18 + 256 * 2688), answer(18, 2688));
+    }
+}

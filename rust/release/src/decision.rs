@@ -1,0 +1,105 @@
+//! The decision for one group.
+
+use crate::answers;
+use crate::context::Context;
+use crate::refusal::{result_of, Refusal};
+
+/// A user in a group, and the role that the user acts in.
+#[derive(Clone, Copy, Debug, PartialEq, Eq, Hash)]
+pub struct Entry {
+    /// The user's number in the base.
+    pub user: u8,
+    /// The role's number.
+    pub role: u8,
+}
+
+impl Entry {
+    /// An entry by user and role.
+    ///
+    /// ```
+    /// let clerk = release::Entry::new(3, 2);
+    /// assert_eq!((clerk.user, clerk.role), (3, 2));
+    /// ```
+    pub fn new(user: u8, role: u8) -> Entry {
+        Entry { user, role }
+    }
+
+    /// The entry as it stands in a group's bytes.
+    ///
+    /// ```
+    /// assert_eq!(release::Entry::new(3, 2).bytes(), [3, 2]);
+    /// ```
+    pub fn bytes(self) -> [u8; 2] {
+        [self.user, self.role]
+    }
+}
+
+/// Whether the group may release the permission: `Ok` if it is granted, else
+/// the first of refusals 1 to 17 that applies. The order of the entries
+/// doesn't matter.
+///
+/// ```
+/// use release::example::SMALL_SHOP;
+/// use release::{decide, Context, Entry, Refusal};
+///
+/// let manager_and_clerk = [Entry::new(0, 0), Entry::new(2, 2)];
+/// let by_day = Context::new(600, 0, 0);
+/// assert_eq!(decide(&SMALL_SHOP, 0, by_day, &manager_and_clerk), Ok(()));
+///
+/// let early = Context::new(480, 0, 0);
+/// let refused = decide(&SMALL_SHOP, 0, early, &manager_and_clerk);
+/// assert_eq!(refused, Err(Refusal::NoWeight));
+/// ```
+pub fn decide(
+    base: &[u8],
+    permission: u32,
+    context: Context,
+    group: &[Entry],
+) -> Result<(), Refusal> {
+    let bytes: Vec<u8> = group.iter().flat_map(|entry| entry.bytes()).collect();
+    decide_bytes(base, permission, context, &bytes)
+}
+
+/// The same for a group as bytes, 2 an entry. They may be any bytes: those
+/// that are no group get [`Refusal::GroupLength`].
+///
+/// ```
+/// use release::example::SMALL_SHOP;
+/// use release::{decide_bytes, Context, Refusal};
+///
+/// let by_day = Context::new(600, 0, 0);
+/// assert_eq!(decide_bytes(&SMALL_SHOP, 0, by_day, &[0, 0, 2, 2]), Ok(()));
+///
+/// let odd = decide_bytes(&SMALL_SHOP, 0, by_day, &[0, 0, 2]);
+/// assert_eq!(odd, Err(Refusal::GroupLength));
+/// ```
+pub fn decide_bytes(
+    base: &[u8],
+    permission: u32,
+    context: Context,
+    group: &[u8],
+) -> Result<(), Refusal> {
+    result_of(answers::decide(base, permission, context, group))
+}
+
+#[cfg(test)]
+mod tests {
+    use super::*;
+    use crate::example::SMALL_SHOP;
+
+    /// The answer for as many entries, all of users that aren't there.
+    fn answer(entries: usize) -> Result<(), Refusal> {
+        let group = vec![Entry::new(9, 9); entries];
+        decide(&SMALL_SHOP, 0, Context::new(600, 0, 0), &group)
+    }
+
+    #[test]
+    fn a_group_has_one_to_six_entries() {
+        for entries in 1..=6 {
+            assert_eq!(answer(entries), Err(Refusal::NoUserOrRole));
+        }
+        for entries in [0, 7, 128, 129, 32_768, 70_000] {
+            assert_eq!(answer(entries), Err(Refusal::GroupLength));
+        }
+    }
+}

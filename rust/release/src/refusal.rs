@@ -1,0 +1,203 @@
+//! Refusals.
+
+use std::error::Error;
+use std::fmt;
+
+/// Why a call is refused, in checking order. The tables of a base are H
+/// (hierarchy), U (users), P (permissions), K (group clauses), C (context
+/// clauses), A (policies) and X (exclusions); R is the number of roles.
+#[derive(Clone, Copy, Debug, PartialEq, Eq, Hash)]
+#[non_exhaustive]
+pub enum Refusal {
+    /// 1: the base is shorter than 36 or longer than 2,364 bytes.
+    Length = 1,
+    /// 2: the base's last four bytes aren't LCAP.
+    Letters = 2,
+    /// 3: the rest of the trailer breaks its rules, a count is above its
+    /// limit, or the tables don't fill the bytes before it in order.
+    Trailer = 3,
+    /// 4: an H record has senior not below junior, or junior not below R.
+    Hierarchy = 4,
+    /// 5: a user's parameter is no product of different codes of roles below
+    /// R.
+    Users = 5,
+    /// 6: a K record breaks its rules or names a permission that isn't in P.
+    GroupClauses = 6,
+    /// 7: a C record breaks its rules.
+    ContextClauses = 7,
+    /// 8: an A record breaks its rules, or its role or permission isn't there.
+    Policies = 8,
+    /// 9: an X record breaks its rules, or its b isn't a role or permission
+    /// there.
+    Exclusions = 9,
+    /// 10: the permission isn't in P.
+    NoPermission = 10,
+    /// 11: minute, day or zone is out of range.
+    Context = 11,
+    /// 12: the group's length is 0, odd or above 12.
+    GroupLength = 12,
+    /// 13: an entry's user isn't in U, or its role isn't below R.
+    NoUserOrRole = 13,
+    /// 14: a user stands in two entries.
+    UserTwice = 14,
+    /// 15: an entry's user doesn't hold its role.
+    Membership = 15,
+    /// 16: an entry's role has weight 0 for the permission.
+    NoWeight = 16,
+    /// 17: the permission's condition doesn't hold.
+    Condition = 17,
+    /// 18: the buffer is shorter than 3 times the number of conflicts.
+    ConflictBuffer = 18,
+    /// 19: the buffer is shorter than 13 times the number of permissions.
+    ReportBuffer = 19,
+}
+
+impl Refusal {
+    /// Every refusal, in checking order.
+    pub const ALL: [Refusal; 19] = [
+        Refusal::Length,
+        Refusal::Letters,
+        Refusal::Trailer,
+        Refusal::Hierarchy,
+        Refusal::Users,
+        Refusal::GroupClauses,
+        Refusal::ContextClauses,
+        Refusal::Policies,
+        Refusal::Exclusions,
+        Refusal::NoPermission,
+        Refusal::Context,
+        Refusal::GroupLength,
+        Refusal::NoUserOrRole,
+        Refusal::UserTwice,
+        Refusal::Membership,
+        Refusal::NoWeight,
+        Refusal::Condition,
+        Refusal::ConflictBuffer,
+        Refusal::ReportBuffer,
+    ];
+
+    /// The refusal's number, 1 to 19.
+    ///
+    /// ```
+    /// assert_eq!(release::Refusal::UserTwice.number(), 14);
+    /// ```
+    pub fn number(self) -> u32 {
+        self as u32
+    }
+
+    /// The refusal with this number, if there is one.
+    ///
+    /// ```
+    /// use release::Refusal;
+    ///
+    /// assert_eq!(Refusal::from_number(14), Some(Refusal::UserTwice));
+    /// assert_eq!(Refusal::from_number(0), None);
+    /// ```
+    pub fn from_number(number: u32) -> Option<Refusal> {
+        let mut all = Refusal::ALL.into_iter();
+        all.find(|refusal| refusal.number() == number)
+    }
+
+    /// What it means, in words.
+    ///
+    /// ```
+    /// use release::Refusal;
+    ///
+    /// assert_eq!(Refusal::UserTwice.meaning(), "a user stands in two entries");
+    /// ```
+    pub fn meaning(self) -> &'static str {
+        match self {
+            Refusal::Length => "the base is shorter than 36 or longer than 2,364 bytes",
+            Refusal::Letters => "the base's last four bytes aren't LCAP",
+            Refusal::Trailer => {
+                "the rest of the trailer breaks its rules, a count is above its limit, \
+                 or the tables don't fill the bytes before it in order"
+            }
+            Refusal::Hierarchy => {
+                "a hierarchy record has senior not below junior, or junior not below \
+                 the number of roles"
+            }
+            Refusal::Users => {
+                "a user's parameter is no product of different codes of the base's roles"
+            }
+            Refusal::GroupClauses => {
+                "a group clause breaks its rules or names a permission that isn't there"
+            }
+            Refusal::ContextClauses => "a context clause breaks its rules",
+            Refusal::Policies => "a policy breaks its rules, or its role or permission isn't there",
+            Refusal::Exclusions => {
+                "an exclusion breaks its rules, or its second role or permission isn't there"
+            }
+            Refusal::NoPermission => "the permission isn't there",
+            Refusal::Context => "minute, day or zone is out of range",
+            Refusal::GroupLength => "the group's length is 0, odd or above 12",
+            Refusal::NoUserOrRole => "an entry's user or role isn't there",
+            Refusal::UserTwice => "a user stands in two entries",
+            Refusal::Membership => "an entry's user doesn't hold its role",
+            Refusal::NoWeight => "an entry's role has weight 0 for the permission",
+            Refusal::Condition => "the permission's condition doesn't hold",
+            Refusal::ConflictBuffer => "the buffer is shorter than 3 times the number of conflicts",
+            Refusal::ReportBuffer => {
+                "the buffer is shorter than 13 times the number of permissions"
+            }
+        }
+    }
+}
+
+/// The number and the meaning.
+///
+/// ```
+/// let text = release::Refusal::UserTwice.to_string();
+/// assert_eq!(text, "refusal 14: a user stands in two entries");
+/// ```
+impl fmt::Display for Refusal {
+    fn fmt(&self, formatter: &mut fmt::Formatter) -> fmt::Result {
+        write!(formatter, "refusal {}: {}", self.number(), self.meaning())
+    }
+}
+
+impl Error for Refusal {}
+
+/// What an answer says: 0, or a refusal's number.
+pub(crate) fn result_of(answer: u32) -> Result<(), Refusal> {
+    match answer {
+        0 => Ok(()),
+        _ => Err(Refusal::from_number(answer).expect("the library answers 0 to 19")),
+    }
+}
+
+#[cfg(test)]
+mod tests {
+    use super::*;
+
+    #[test]
+    fn numbers_count_from_1() {
+        for (number, refusal) in (1..).zip(Refusal::ALL) {
+            assert_eq!(refusal.number(), number);
+            assert_eq!(Refusal::from_number(number), Some(refusal));
+            assert_eq!(result_of(number), Err(refusal));
+        }
+        assert_eq!(result_of(0), Ok(()));
+        assert_eq!(Refusal::from_number(20), None);
+    }
+
+    #[test]
+    fn each_meaning_is_its_own() {
+        for refusal in Refusal::ALL {
+            let same = |other: &Refusal| other.meaning() == refusal.meaning();
+            assert_eq!(Refusal::ALL.into_iter().filter(same).count(), 1);
+        }
+    }
+
+    #[test]
+    fn it_is_an_error_that_can_be_passed_on() {
+        fn passed_on() -> Result<(), Box<dyn Error + Send + Sync>> {
+            Err(Refusal::Letters)?
+        }
+        let error = passed_on().expect_err("it is refused");
+        assert_eq!(
+            error.to_string(),
+            "refusal 2: the base's last four bytes aren't LCAP"
+        );
+    }
+}

@@ -1,0 +1,190 @@
+/*
+ * Calls each function through the header, in C and in C++: every refusal by
+ * its name, NULL with length 0, the buffers and the two parts of an answer.
+ * The small shop comes in on standard input. Prints what differs, or `ok`.
+ */
+#include <stdio.h>
+#include <string.h>
+
+#include "release.h"
+
+#define SHOP 114
+#define TRAILER 36
+
+static uint8_t shop[SHOP];
+static int differences = 0;
+
+static void expect(const char *what, uint64_t expected, uint64_t found) {
+    if (found != expected) {
+        printf("%s: expected %lu, found %lu\n", what, (unsigned long)expected,
+               (unsigned long)found);
+        differences++;
+    }
+}
+
+/* The check of the shop with one byte changed. */
+static uint32_t check_with(size_t place, uint8_t value) {
+    uint8_t base[SHOP];
+    memcpy(base, shop, SHOP);
+    base[place] = value;
+    return release_check(base, SHOP);
+}
+
+/* The check of the shop with an exclusion put before its trailer. */
+static uint32_t check_with_exclusion(uint8_t kind, uint8_t a, uint8_t b) {
+    uint8_t base[SHOP + 3];
+    memcpy(base, shop, SHOP - TRAILER);
+    base[SHOP - TRAILER] = kind;
+    base[SHOP - TRAILER + 1] = a;
+    base[SHOP - TRAILER + 2] = b;
+    memcpy(base + SHOP - TRAILER + 3, shop + SHOP - TRAILER, TRAILER);
+    base[SHOP - TRAILER + 3 + 26] = 1;
+    return release_check(base, sizeof base);
+}
+
+static void checks(void) {
+    expect("check", RELEASE_DONE, release_check(shop, SHOP));
+    expect("1", RELEASE_REFUSAL_LENGTH, release_check(shop, RELEASE_SHORTEST_BASE - 1));
+    expect("2", RELEASE_REFUSAL_LETTERS, check_with(SHOP - 1, 'Q'));
+    expect("3", RELEASE_REFUSAL_TRAILER, check_with(SHOP - 5, 1));
+    expect("4", RELEASE_REFUSAL_HIERARCHY, check_with(0, 1));
+    expect("5", RELEASE_REFUSAL_USERS, check_with(4, 9));
+    expect("6", RELEASE_REFUSAL_GROUP_CLAUSES, check_with(22, 1));
+    expect("7", RELEASE_REFUSAL_CONTEXT_CLAUSES, check_with(38, 16));
+    expect("8", RELEASE_REFUSAL_POLICIES, check_with(56, 6));
+    expect("9", RELEASE_REFUSAL_EXCLUSIONS, check_with_exclusion(0, 2, 2));
+    expect("an exclusion", RELEASE_DONE, check_with_exclusion(0, 1, 2));
+}
+
+/* A base of as many bytes as can be, and one more. */
+static void lengths(void) {
+    uint8_t base[RELEASE_LONGEST_BASE + 1];
+    memset(base, 0, sizeof base);
+    memcpy(base + RELEASE_LONGEST_BASE - 4, "LCAP", 4);
+    expect("longest", RELEASE_REFUSAL_TRAILER, release_check(base, RELEASE_LONGEST_BASE));
+    expect("longer", RELEASE_REFUSAL_LENGTH, release_check(base, sizeof base));
+}
+
+static uint32_t decide(uint32_t minute, const uint8_t *group, size_t length) {
+    return release_decide(shop, SHOP, 0, minute, 0, 0, group, length);
+}
+
+static void decisions(void) {
+    const uint8_t two[] = {0, 0, 2, 2};
+    const uint8_t unknown[] = {0, 0, 4, 2};
+    const uint8_t twice[] = {0, 0, 0, 0};
+    const uint8_t not_held[] = {0, 0, 2, 1};
+    expect("granted", RELEASE_DONE, decide(600, two, 4));
+    expect("10", RELEASE_REFUSAL_NO_PERMISSION,
+           release_decide(shop, SHOP, 256, 600, 0, 0, two, 4));
+    expect("11", RELEASE_REFUSAL_CONTEXT, decide(1440, two, 4));
+    expect("11", RELEASE_REFUSAL_CONTEXT, release_decide(shop, SHOP, 0, 0, 7, 0, two, 4));
+    expect("11", RELEASE_REFUSAL_CONTEXT, release_decide(shop, SHOP, 0, 0, 0, 256, two, 4));
+    expect("12", RELEASE_REFUSAL_GROUP_LENGTH, decide(600, two, 3));
+    expect("13", RELEASE_REFUSAL_NO_USER_OR_ROLE, decide(600, unknown, 4));
+    expect("14", RELEASE_REFUSAL_USER_TWICE, decide(600, twice, 4));
+    expect("15", RELEASE_REFUSAL_MEMBERSHIP, decide(600, not_held, 4));
+    expect("16", RELEASE_REFUSAL_NO_WEIGHT, decide(480, two, 4));
+    expect("17", RELEASE_REFUSAL_CONDITION, decide(600, two, RELEASE_ENTRY_BYTES));
+    expect("the base's letters as a group", 13, decide(600, shop + SHOP - 4, 4));
+}
+
+static void reports(void) {
+    const uint8_t record[] = {2, 0, 0, 1, 1, 255, 255, 255, 255, 255, 255, 255, 255};
+    uint8_t out[RELEASE_LONGEST_REPORT];
+    uint64_t answer;
+    size_t i;
+    memset(out, 7, sizeof out);
+    answer = release_report(shop, SHOP, 480, 0, 0, out, RELEASE_PERMISSION_BYTES - 1);
+    expect("19", RELEASE_REFUSAL_REPORT_BUFFER, release_answer_refusal(answer));
+    expect("19's count", 0, release_answer_count(answer));
+    expect("a refused report writes nothing", 7, out[0]);
+    answer = release_report(shop, SHOP, 480, 0, 0, out, sizeof out);
+    expect("report", RELEASE_DONE, release_answer_refusal(answer));
+    expect("releasable", 1, release_answer_count(answer));
+    for (i = 0; i < sizeof out; i++) {
+        expect("byte of the report", i < sizeof record ? record[i] : 7, out[i]);
+    }
+}
+
+/* The shop with its three policies made the buyer's, of weights 1, 2 and 3. */
+static void conflicts(void) {
+    const uint8_t list[] = {1, 0, 1, 1, 0, 2, 1, 1, 2, 7};
+    uint8_t base[SHOP];
+    uint8_t out[3 * RELEASE_CONFLICT_BYTES + 1];
+    uint64_t answer;
+    memcpy(base, shop, SHOP);
+    base[54] = base[62] = base[70] = 1;
+    base[56] = 1;
+    base[64] = 2;
+    base[72] = 3;
+    memset(out, 7, sizeof out);
+    answer = release_conflicts(base, SHOP, out, 3 * RELEASE_CONFLICT_BYTES - 1);
+    expect("18", RELEASE_REFUSAL_CONFLICT_BUFFER, release_answer_refusal(answer));
+    expect("18's count", 3, release_answer_count(answer));
+    expect("a refused list writes nothing", 7, out[0]);
+    answer = release_conflicts(base, SHOP, out, sizeof out);
+    expect("conflicts", RELEASE_DONE, release_answer_refusal(answer));
+    expect("number of conflicts", 3, release_answer_count(answer));
+    expect("the list", 0, memcmp(out, list, sizeof list) != 0);
+    answer = release_conflicts(base, SHOP, NULL, 0);
+    expect("18", RELEASE_REFUSAL_CONFLICT_BUFFER, release_answer_refusal(answer));
+    expect("18's count", 3, release_answer_count(answer));
+}
+
+static void nulls(void) {
+    uint8_t out[RELEASE_PERMISSION_BYTES];
+    uint8_t least[RELEASE_SHORTEST_BASE];
+    memset(least, 0, sizeof least);
+    least[28] = 1;
+    memcpy(least + 32, "LCAP", 4);
+    expect("no base", 1, release_check(NULL, 0));
+    expect("no base", 1, release_decide(NULL, 0, 0, 480, 0, 0, NULL, 0));
+    expect("no base", 1, release_report(NULL, 0, 480, 0, 0, out, sizeof out));
+    expect("no base", 1, release_report(NULL, 0, 480, 0, 0, NULL, 0));
+    expect("no base", 1, release_conflicts(NULL, 0, out, sizeof out));
+    expect("no base", 1, release_conflicts(NULL, 0, NULL, 0));
+    expect("no group", 12, release_decide(shop, SHOP, 0, 480, 0, 0, NULL, 0));
+    expect("no buffer", 19, release_report(shop, SHOP, 480, 0, 0, NULL, 0));
+    expect("no permission, no buffer", 0,
+           release_report(least, sizeof least, 480, 0, 0, NULL, 0));
+    expect("no conflict, no buffer", 0, release_conflicts(shop, SHOP, NULL, 0));
+}
+
+/* Bases, groups and buffers that start anywhere. */
+static void unaligned(void) {
+    const uint8_t two[] = {0, 0, 1, 1};
+    uint8_t base[SHOP + 8];
+    uint8_t group[4 + 8];
+    uint8_t out[RELEASE_PERMISSION_BYTES + 8];
+    size_t at;
+    for (at = 0; at < 8; at++) {
+        memcpy(base + at, shop, SHOP);
+        memcpy(group + at, two, 4);
+        memset(out, 7, sizeof out);
+        expect("check", 0, release_check(base + at, SHOP));
+        expect("decide", 0, release_decide(base + at, SHOP, 0, 480, 0, 0, group + at, 4));
+        expect("report", 256,
+               release_report(base + at, SHOP, 480, 0, 0, out + at, RELEASE_PERMISSION_BYTES));
+        expect("approvers", 2, out[at]);
+        expect("conflicts", 0, release_conflicts(base + at, SHOP, out + at, 3));
+    }
+}
+
+int main(void) {
+    if (fread(shop, 1, SHOP, stdin) != SHOP) {
+        printf("the small shop has %d bytes\n", SHOP);
+        return 1;
+    }
+    checks();
+    lengths();
+    decisions();
+    reports();
+    conflicts();
+    nulls();
+    unaligned();
+    if (differences == 0) {
+        printf("ok\n");
+    }
+    return differences != 0;
+}

@@ -1,0 +1,63 @@
+//! The calls in other threads: in little stack, and many at once.
+
+use std::thread::{self, Builder};
+
+use release::example::SMALL_SHOP;
+use release::{check, conflicts_into, decide_bytes, report, Context, Refusal};
+
+const EARLY: Context = Context {
+    minute: 480,
+    day: 0,
+    zone: 0,
+};
+
+/// Runs a call in a thread with so many bytes of stack.
+fn within<T: Send + 'static>(stack: usize, call: fn() -> T) -> T {
+    let thread = Builder::new().stack_size(stack).spawn(call);
+    thread.expect("a thread starts").join().expect("it ends")
+}
+
+/// The small shop with a sum that nobody reaches: groups of every number are
+/// looked for, which takes most.
+fn out_of_reach() -> [u8; 114] {
+    let mut shop = SMALL_SHOP;
+    shop[29] = 255;
+    shop
+}
+
+/// How many permissions can be released early.
+fn releasable(base: &[u8]) -> Result<usize, Refusal> {
+    report(base, EARLY).map(|report| report.count())
+}
+
+#[test]
+fn a_report_in_1_mib() {
+    assert_eq!(within(1 << 20, || releasable(&out_of_reach())), Ok(0));
+    assert_eq!(within(1 << 20, || releasable(&SMALL_SHOP)), Ok(1));
+}
+
+#[test]
+fn every_other_call_in_32_kib() {
+    const LITTLE: usize = 1 << 15;
+    assert_eq!(within(LITTLE, || check(&SMALL_SHOP)), Ok(()));
+    let decided = within(LITTLE, || {
+        decide_bytes(&out_of_reach(), 0, EARLY, &[0, 0, 1, 1])
+    });
+    assert_eq!(decided, Err(Refusal::Condition));
+    let listed = within(LITTLE, || conflicts_into(&SMALL_SHOP, &mut [0; 9]));
+    assert_eq!(listed, Ok(0));
+}
+
+#[test]
+fn many_at_once() {
+    thread::scope(|scope| {
+        for turn in 0..8 {
+            scope.spawn(move || {
+                let (base, count) = [(SMALL_SHOP, 1), (out_of_reach(), 0)][turn % 2];
+                for _ in 0..200 {
+                    assert_eq!(releasable(&base), Ok(count));
+                }
+            });
+        }
+    });
+}
