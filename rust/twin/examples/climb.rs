@@ -1,82 +1,109 @@
 //! Looks for the base whose report costs most: from a random one by random
 //! changes that mostly cost more.
 //!
-//!     cargo run --offline -p twin --profile measure --example climb SEED STEPS
+//!     cargo run --offline -p twin --profile measure --example climb SEED STEPS FEWEST MOST
 //!
-//! A permission gets four policies, so that all 16 can have the same.
+//! Each user holds from FEWEST to MOST roles. A permission gets four policies
+//! and four clauses, so that all 16 can have the same.
 
 use twin::counts::{counts, Counts};
 use twin::plan::Plan;
-use twin::weights::{role_sets, role_weights, setting};
+use twin::weights::{holders, role_weights, setting};
+use twin::Base;
 
 fn main() {
     let words: Vec<u64> = std::env::args()
         .skip(1)
         .map(|word| word.parse().expect("a number"))
         .collect();
-    let (seed, steps) = (words[0], words[1]);
-    let plan = climb(&mut Random(seed), steps);
+    let [seed, steps, fewest, most] = words[..] else {
+        panic!("four numbers are asked for");
+    };
+    let allowed: Vec<u8> = (0..=255_u8)
+        .filter(|roles| (fewest..=most).contains(&roles.count_ones().into()))
+        .collect();
+    let plan = climb(&mut Random(seed), steps, &allowed);
     println!("{} instructions a permission", cost(counts_of(&plan)));
     println!("{:?}", counts_of(&plan));
+    println!("weights {:?}", weights_of(&plan));
     println!("users {:?}", plan.users);
     println!("hierarchy {:?}", plan.hierarchy);
     println!("policies {:?}", plan.policies);
 }
 
-fn climb(random: &mut Random, steps: u64) -> Plan {
+fn climb(random: &mut Random, steps: u64, allowed: &[u8]) -> Plan {
     let mut plan = Plan {
         permissions: 1,
-        users: (0..24).map(|_| random.below(256) as u8).collect(),
+        users: (0..24).map(|_| random.pick(allowed)).collect(),
         policies: (4..8).map(|role| (role, 0, 1, 1)).collect(),
         ..Plan::default()
     };
-    let mut best = plan.clone();
+    let mut now = cost(counts_of(&plan));
+    let (mut best, mut most) = (plan.clone(), now);
     for step in 0..steps {
-        let next = changed(random, &plan);
-        let now = cost(counts_of(&plan)) as f64;
-        let gain = cost(counts_of(&next)) as f64 - now;
-        let heat = 0.03 * now * (1.0 - step as f64 / steps as f64).powi(2);
+        let next = changed(random, &plan, allowed);
+        let then = cost(counts_of(&next));
+        let gain = then as f64 - now as f64;
+        let heat = 0.03 * now as f64 * (1.0 - step as f64 / steps as f64).powi(2);
         if gain >= 0.0 || random.share() < (gain / heat).exp() {
-            plan = next;
+            (plan, now) = (next, then);
         }
-        if cost(counts_of(&plan)) > cost(counts_of(&best)) {
-            best = plan.clone();
+        if now > most {
+            (best, most) = (plan.clone(), now);
         }
     }
     best
 }
 
 /// What the counts cost in the library's code, besides what is the same for
-/// all: a permission with four clauses of its own and 60 others.
+/// all: a permission with four clauses of four conditions on the sum.
 fn cost(counts: Counts) -> usize {
-    1_156 * counts.reached + 12 * counts.grown + 12 * counts.growths + 5 * counts.users
+    5 * counts.asked
+        + 568 * counts.reached
+        + 6 * counts.scanned
+        + 4 * counts.grown
+        + 16 * counts.growths
+        + 5 * counts.users
 }
 
 fn counts_of(plan: &Plan) -> Counts {
+    let bytes = plan.bytes();
+    let base = Base::framed(&bytes).expect("the tables are there");
+    counts(&holders(&base), weights_of(plan))
+}
+
+fn weights_of(plan: &Plan) -> [u8; 8] {
     let at = model::Context {
         minute: 0,
         day: 0,
         zone: 0,
     };
-    let base = plan.bytes();
-    let weights = role_weights(&base, &setting(&base, at), 0);
-    counts(&role_sets(&base), weights)
+    let bytes = plan.bytes();
+    let base = Base::framed(&bytes).expect("the tables are there");
+    role_weights(&base, &setting(&base, at), 0)
 }
 
 /// One to three changes of a user, the hierarchy or a policy.
-fn changed(random: &mut Random, plan: &Plan) -> Plan {
+fn changed(random: &mut Random, plan: &Plan, allowed: &[u8]) -> Plan {
     let mut plan = plan.clone();
     for _ in 0..=random.below(3) {
         let (user, other) = (random.below(24), random.below(24));
-        match random.below(7) {
-            0 | 1 => plan.users[user] ^= 1 << random.below(8),
+        match random.below(9) {
+            0 | 1 => {
+                let roles = plan.users[user] ^ 1 << random.below(8);
+                if allowed.contains(&roles) {
+                    plan.users[user] = roles;
+                }
+            }
             2 => plan.users[user] = plan.users[other],
             3 => plan.users.swap(user, other),
-            4 | 5 => turn_edge(random, &mut plan.hierarchy),
+            4 => plan.users[user] = random.pick(allowed),
+            5 | 6 => turn_edge(random, &mut plan.hierarchy),
             _ => {
                 let weight = 1 + random.below(5) as u8;
                 let role = random.below(8) as u8;
-                plan.policies[random.below(4)] = (role, 0, weight, 1);
+                let kind = u8::from(random.below(4) > 0);
+                plan.policies[random.below(4)] = (role, 0, weight, kind);
             }
         }
     }
@@ -109,6 +136,10 @@ impl Random {
 
     fn below(&mut self, end: usize) -> usize {
         (self.next() % end as u64) as usize
+    }
+
+    fn pick(&mut self, choices: &[u8]) -> u8 {
+        choices[self.below(choices.len())]
     }
 
     /// A number from 0 up to 1.

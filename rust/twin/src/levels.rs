@@ -1,8 +1,8 @@
-//! Levels: for n entries by rising user, each set of roles and sum with the
+//! Levels: for n entries by rising user, each sum and set of roles with the
 //! least end, one past the last user.
 
-/// A set of roles and a sum of up to 240.
-pub const CELLS: usize = 256 * SUMS;
+/// Sets of roles.
+pub const SETS: usize = 256;
 
 /// Sums from 0 to 240.
 pub const SUMS: usize = 241;
@@ -10,73 +10,71 @@ pub const SUMS: usize = 241;
 /// In a cell that is not reached.
 pub const UNREACHED: u8 = 255;
 
-/// A level's ends, by cell.
-pub type Level = [u8; CELLS];
+/// The ends of one sum, by set.
+pub type Row = [u8; SETS];
 
-pub type Sets = [u8; 24];
+/// A level's ends, by sum and set.
+pub type Level = [Row; SUMS];
+
+/// A level without a reached cell.
+pub static NOTHING: Level = [[UNREACHED; SETS]; SUMS];
+
+/// For each role the users who may act in it, as a set.
+pub type Holders = [u32; 8];
+
+/// Each role's weight.
 pub type Weights = [u8; 8];
 
-pub fn in_set(set: u8, role: u8) -> bool {
-    set >> role & 1 == 1
+/// The largest weight.
+pub fn heaviest(w: Weights) -> usize {
+    w.into_iter().max().map_or(0, usize::from)
 }
 
-/// The first user from `from` on who may act in the role, or the number of
-/// users.
-pub fn next_user(sets: &Sets, from: usize, role: u8) -> usize {
-    let mut user = from;
-    while user < sets.len() {
-        if in_set(sets[user], role) {
-            return user;
+/// One past the first user from `end` on among the role's holders.
+pub fn next_end(holders: u32, end: u8) -> Option<u8> {
+    let later = holders.checked_shr(end.into()).unwrap_or(0);
+    (later != 0).then(|| end + later.trailing_zeros() as u8 + 1)
+}
+
+/// Calls for each reached cell of these sums, in order: sum, set and end.
+/// Stops at the first for which something is answered.
+pub fn reached<T>(sums: &[Row], mut call: impl FnMut(usize, u8, u8) -> Option<T>) -> Option<T> {
+    for (sum, row) in sums.iter().enumerate() {
+        for (block, ends) in row.as_chunks::<16>().0.iter().enumerate() {
+            if *ends == [UNREACHED; 16] {
+                continue;
+            }
+            for (i, &end) in ends.iter().enumerate() {
+                if end != UNREACHED {
+                    let answer = call(sum, (16 * block + i) as u8, end);
+                    if answer.is_some() {
+                        return answer;
+                    }
+                }
+            }
         }
-        user += 1;
     }
-    user
+    None
 }
 
-/// Keeps the smaller end at a place.
-fn relax(level: &mut Level, at: usize, end: u8) {
-    if end < level[at] {
-        level[at] = end;
-    }
-}
-
-pub fn place_of(set: u8, sum: usize) -> usize {
-    usize::from(set) * SUMS + sum
-}
-
-/// One entry more in a role.
-fn grow_in(
-    sets: &Sets,
-    w: Weights,
-    (set, sum, end): (u8, usize, usize),
-    role: u8,
-    next: &mut Level,
-) {
-    let x = w[usize::from(role)];
-    if x == 0 {
-        return;
-    }
-    let user = next_user(sets, end, role);
-    if sets.len() <= user {
-        return;
-    }
-    let at = place_of(set | 1 << role, sum + usize::from(x));
-    relax(next, at, (user + 1) as u8);
+/// The next level: one entry more in each role from each cell of these sums.
+/// `next` holds 255 throughout.
+pub fn advance(holders: &Holders, w: Weights, sums: &[Row], next: &mut Level) {
+    reached(sums, |sum, set, end| {
+        grow(holders, w, (sum, set, end), next);
+        None::<()>
+    });
 }
 
 /// One entry more in each role.
-fn grow(sets: &Sets, w: Weights, reached: (u8, usize, usize), next: &mut Level) {
-    for role in 0..8 {
-        grow_in(sets, w, reached, role, next);
-    }
-}
-
-/// The next level: one entry more. `next` holds 255 throughout.
-pub fn advance(sets: &Sets, w: Weights, level: &Level, next: &mut Level) {
-    for (cell, &end) in level.iter().enumerate() {
-        if end != UNREACHED {
-            let reached = ((cell / SUMS) as u8, cell % SUMS, usize::from(end));
-            grow(sets, w, reached, next);
+fn grow(holders: &Holders, w: Weights, (sum, set, end): (usize, u8, u8), next: &mut Level) {
+    for (role, x) in w.into_iter().enumerate() {
+        if x == 0 {
+            continue;
+        }
+        if let Some(end) = next_end(holders[role], end) {
+            let place = &mut next[sum + usize::from(x)][usize::from(set | 1 << role)];
+            *place = (*place).min(end);
         }
     }
 }

@@ -1,20 +1,29 @@
-//! The report as the library computes it, in plain Rust: the same tables, the
-//! same steps. For measuring what a report costs, and which bases cost most.
+//! The library's calls in plain Rust, tuned: the same tables, the same steps.
+//! For measuring what a call costs, and which bases cost most.
 
-pub mod back;
-pub mod conditions;
+mod back;
+mod base;
+mod check;
+mod conditions;
 pub mod counts;
+mod groups;
 pub mod levels;
 mod operators;
 pub mod plan;
-pub mod search;
-pub mod tables;
+mod related;
+mod rows;
+mod search;
 pub mod weights;
 pub mod worst;
 
 use model::{Answer, Context};
 
+pub use base::Base;
+use conditions::Clause;
 use search::{search, Wanted};
+
+/// The identity codes of roles 0 to 7.
+const CODES: [u32; 8] = [3, 5, 7, 11, 13, 17, 19, 23];
 
 /// The most entries of a group.
 pub const MOST: usize = 6;
@@ -22,40 +31,93 @@ pub const MOST: usize = 6;
 /// Bytes of a permission's record: k and six entries.
 pub const RECORD: usize = 1 + 2 * MOST;
 
+/// 0, or the first of refusals 1 to 9 that applies.
+pub fn check(base: &[u8]) -> u8 {
+    Base::read(base).err().unwrap_or(0)
+}
+
+/// 0 where the group is granted the permission, else the first of refusals 1
+/// to 17 that applies.
+pub fn decide(base: &[u8], permission: u32, at: Context, group: &[u8]) -> u8 {
+    let base = match Base::read(base) {
+        Ok(base) => base,
+        Err(refusal) => return refusal,
+    };
+    if base.permissions.len() as u32 <= permission {
+        return 10;
+    }
+    if !at.in_range() {
+        return 11;
+    }
+    let setting = weights::setting(&base, at);
+    groups::group_refusal(&base, permission as u8, &setting, group)
+}
+
+/// Writes the list of conflicts, 3 bytes each. The answer carries their
+/// number, also if the buffer is too short. No refusal writes.
+pub fn conflicts(base: &[u8], out: &mut [u8]) -> Answer {
+    let base = match Base::read(base) {
+        Ok(base) => base,
+        Err(refusal) => return Answer { refusal, count: 0 },
+    };
+    let rows = rows::all_rows(&base);
+    let count = rows::row_count(&rows);
+    let places = out.as_chunks_mut().0;
+    if places.len() < count as usize {
+        return Answer { refusal: 18, count };
+    }
+    rows::write_rows(&rows, places);
+    Answer { refusal: 0, count }
+}
+
 /// Writes a record for each permission: the number of a smallest group's
 /// entries and the group, by rising user. Later bytes keep their contents.
 /// The answer carries how many permissions have a group. No refusal writes.
 pub fn report(base: &[u8], at: Context, out: &mut [u8]) -> Answer {
-    let refusal = refusal_of(base, at, out.len());
-    if refusal != 0 {
-        return Answer { refusal, count: 0 };
+    let refused = |refusal| Answer { refusal, count: 0 };
+    let base = match Base::read(base) {
+        Ok(base) => base,
+        Err(refusal) => return refused(refusal),
+    };
+    if !at.in_range() {
+        return refused(11);
     }
-    let setting = weights::setting(base, at);
-    let sets = weights::role_sets(base);
-    let mut count = 0;
-    let parts = out.chunks_exact_mut(RECORD);
-    for (permission, part) in parts.take(tables::permission_count(base)).enumerate() {
-        let permission = permission as u8;
-        let found = search(Wanted {
-            k: tables::part(base, tables::CLAUSES),
-            permission,
-            sets: &sets,
-            w: weights::role_weights(base, &setting, permission),
-        });
-        part[0] = found.size as u8;
-        part[1..].copy_from_slice(&found.group);
-        count += u32::from(found.size > 0);
+    if out.len() < RECORD * base.permissions.len() {
+        return refused(19);
     }
-    Answer { refusal, count }
+    let count = fill(&base, at, out.as_chunks_mut().0);
+    Answer { refusal: 0, count }
 }
 
-/// 0, or the first of refusals 1 to 9, 11 and 19 that applies.
-fn refusal_of(base: &[u8], at: Context, room: usize) -> u8 {
-    match model::check(base) {
-        0 if !at.in_range() => 11,
-        0 if room < RECORD * tables::permission_count(base) => 19,
-        refusal => refusal,
+/// Writes the records; the number of permissions that have a group.
+fn fill(base: &Base, at: Context, records: &mut [[u8; RECORD]]) -> u32 {
+    let setting = weights::setting(base, at);
+    let holders = weights::holders(base);
+    let mut count = 0;
+    for (permission, record) in (0..base.permissions.len() as u8).zip(records) {
+        let (clauses, own) = own_clauses(base.clauses, permission);
+        let found = search(Wanted {
+            clauses: &clauses[..own],
+            holders: &holders,
+            w: weights::role_weights(base, &setting, permission),
+        });
+        record[0] = found.size as u8;
+        record[1..].copy_from_slice(&found.group);
+        count += u32::from(found.size > 0);
     }
+    count
+}
+
+/// The permission's clauses, one behind the other, and their number.
+fn own_clauses(clauses: &[Clause], permission: u8) -> ([Clause; 64], usize) {
+    let mut own = [[0; 16]; 64];
+    let of_permission = clauses.iter().filter(|clause| clause[0] == permission);
+    let mut count = 0;
+    for (clause, place) in of_permission.zip(&mut own) {
+        *place = *clause;
+        count += 1;
+    }
+    (own, count)
 }
 
 #[cfg(test)]

@@ -1,16 +1,16 @@
 //! The search for one permission: level by level up to the first that meets
 //! the condition, then back.
 
-use crate::back::{meeting_cell, step_back, Reached};
-use crate::levels::{advance, Level, Sets, Weights, CELLS, SUMS, UNREACHED};
+use crate::back::{step_back, Cell};
+use crate::conditions::{holds, Clause};
+use crate::levels::{advance, heaviest, reached, Holders, Level, Row, Weights, NOTHING};
 use crate::MOST;
 
-/// What is searched for: a group for the permission with these clauses.
+/// What is searched for: a group that meets one of these clauses.
 #[derive(Clone, Copy)]
 pub struct Wanted<'a> {
-    pub k: &'a [u8],
-    pub permission: u8,
-    pub sets: &'a Sets,
+    pub clauses: &'a [Clause],
+    pub holders: &'a Holders,
     pub w: Weights,
 }
 
@@ -21,48 +21,58 @@ pub struct Found {
 }
 
 pub fn search(wanted: Wanted) -> Found {
-    let mut level = [UNREACHED; CELLS];
-    level[0] = 0;
+    let mut level = NOTHING;
+    level[0][0] = 0;
     let mut found = Found {
         size: 0,
         group: [255; 2 * MOST],
     };
-    search_from(wanted, 0, &level, &mut found);
+    search_from(wanted, heaviest(wanted.w), 0, &level, &mut found);
     found
 }
 
-/// Searches from the level of n entries on. Answers the cell of this level
-/// through which the group goes, if there is one.
-fn search_from(wanted: Wanted, n: usize, level: &Level, found: &mut Found) -> usize {
+/// Searches from the level of n entries on, no role weighing more than
+/// `heavy`. Answers the cell of this level through which the group goes, if
+/// there is one.
+fn search_from(
+    wanted: Wanted,
+    heavy: usize,
+    n: usize,
+    level: &Level,
+    found: &mut Found,
+) -> Option<Cell> {
     let Wanted {
-        k,
-        permission,
-        sets,
+        clauses,
+        holders,
         w,
     } = wanted;
+    let sums = &level[..=n * heavy];
     if n >= 1 {
-        let cell = meeting_cell(k, permission, n as u32, level);
-        if cell < CELLS {
+        let cell = meeting_cell(clauses, n as u32, sums);
+        if cell.is_some() {
             found.size = n;
             return cell;
         }
     }
     if n == MOST {
-        return CELLS;
+        return None;
     }
-    let mut next = [UNREACHED; CELLS];
-    advance(sets, w, level, &mut next);
-    let cell = search_from(wanted, n + 1, &next, found);
-    if cell == CELLS {
-        return CELLS;
+    let mut next = NOTHING;
+    advance(holders, w, sums, &mut next);
+    let cell = search_from(wanted, heavy, n + 1, &next, found)?;
+    let end = cell.end(&next);
+    let (before, role) = step_back(holders, w, level, cell, end)?;
+    found.group[2 * n] = end - 1;
+    found.group[2 * n + 1] = role;
+    Some(before)
+}
+
+/// The first reached cell that meets the condition with n entries.
+fn meeting_cell(clauses: &[Clause], n: u32, sums: &[Row]) -> Option<Cell> {
+    if clauses.is_empty() {
+        return None;
     }
-    let there = Reached {
-        set: (cell / SUMS) as u8,
-        sum: cell % SUMS,
-        end: usize::from(next[cell]),
-    };
-    let back = step_back(sets, w, level, there);
-    found.group[2 * n] = next[cell] - 1;
-    found.group[2 * n + 1] = back.role;
-    back.cell
+    reached(sums, |sum, set, _| {
+        holds(clauses, n, sum as u32, set).then_some(Cell { sum, set })
+    })
 }

@@ -1,12 +1,12 @@
 //! What a base and a context fix: each role's weight for a permission, and
-//! the roles that each user may act in.
+//! the users who may act in each role.
 
 use model::Context;
 
+use crate::base::Base;
+use crate::levels::{Holders, Weights};
 use crate::operators::is_met;
-use crate::tables::{self, part};
-
-const CODES: [u32; 8] = [3, 5, 7, 11, 13, 17, 19, 23];
+use crate::CODES;
 
 /// The context numbers that hold, as a set, and each role's juniors.
 pub struct Setting {
@@ -14,58 +14,53 @@ pub struct Setting {
     juniors: [u8; 8],
 }
 
-pub fn setting(base: &[u8], at: Context) -> Setting {
+pub fn setting(base: &Base, at: Context) -> Setting {
     Setting {
-        contexts: holding(part(base, tables::CONTEXTS), at),
-        juniors: juniors(part(base, tables::HIERARCHY)),
+        contexts: holding(base.contexts, at),
+        juniors: juniors(base.hierarchy),
     }
 }
 
-fn holding(clauses: &[u8], at: Context) -> u32 {
-    let mut set = 0;
-    for clause in clauses.chunks_exact(16) {
-        if clause_holds(clause, at) {
-            set |= 1 << clause[0];
-        }
-    }
-    set
-}
-
-fn clause_holds(clause: &[u8], at: Context) -> bool {
+fn holding(clauses: &[[u8; 16]], at: Context) -> u32 {
     let values = [at.minute, at.day, at.zone];
-    (0..usize::from(clause[1])).all(|j| {
-        let condition = &clause[2 + 4 * j..6 + 4 * j];
-        let value = u32::from(condition[2]) + 256 * u32::from(condition[3]);
-        is_met(condition[1], values[usize::from(condition[0])], value)
+    let holding = clauses.iter().filter(|clause| clause_holds(clause, values));
+    holding.fold(0, |set, clause| set | 1 << (clause[0] & 31))
+}
+
+fn clause_holds(clause: &[u8; 16], values: [u32; 3]) -> bool {
+    let conditions = clause[2..14].as_chunks::<4>().0;
+    let count = usize::from(clause[1]);
+    let mut counted = conditions.iter().take(count);
+    counted.all(|&[parameter, operator, low, high]| {
+        let value = u16::from_le_bytes([low, high]).into();
+        is_met(operator, values[usize::from(parameter)], value)
     })
 }
 
 /// A senior's number is smaller, so the highest role comes first.
-fn juniors(hierarchy: &[u8]) -> [u8; 8] {
+pub fn juniors(hierarchy: &[[u8; 2]]) -> [u8; 8] {
     let mut known = [0; 8];
     for senior in (0..8).rev() {
-        for pair in hierarchy.chunks_exact(2) {
-            if usize::from(pair[0]) == senior {
-                known[senior] |= 1 << pair[1] | known[usize::from(pair[1])];
-            }
-        }
+        let edges = hierarchy.iter().filter(|edge| edge[0] == senior);
+        known[usize::from(senior)] = edges.fold(0, |set, edge| {
+            set | 1 << (edge[1] & 7) | known[usize::from(edge[1] & 7)]
+        });
     }
     known
 }
 
 /// The weights of all roles for a permission.
-pub fn role_weights(base: &[u8], setting: &Setting, permission: u8) -> [u8; 8] {
+pub fn role_weights(base: &Base, setting: &Setting, permission: u8) -> Weights {
     let (mut own, mut inh) = ([0; 8], [0; 8]);
-    for policy in part(base, tables::POLICIES).chunks_exact(8) {
-        let context = policy[4];
-        let active = context == 255 || setting.contexts >> context & 1 == 1;
-        if policy[1] != permission || !active {
+    for &[role, of, weight, kind, context, ..] in base.policies {
+        let active = context == 255 || setting.contexts >> (context & 31) & 1 == 1;
+        if of != permission || !active {
             continue;
         }
-        let role = usize::from(policy[0]);
-        keep_first(&mut own[role], policy[2]);
-        if policy[3] == 1 {
-            keep_first(&mut inh[role], policy[2]);
+        let role = usize::from(role & 7);
+        keep_first(&mut own[role], weight);
+        if kind == 1 {
+            keep_first(&mut inh[role], weight);
         }
     }
     std::array::from_fn(|role| own[role] + handed_on(inh, setting.juniors[role]))
@@ -78,25 +73,19 @@ fn keep_first(kept: &mut u8, weight: u8) {
 }
 
 fn handed_on(inh: [u8; 8], juniors: u8) -> u8 {
-    (0..8)
-        .filter(|&role| juniors >> role & 1 == 1)
-        .map(|role: usize| inh[role])
-        .sum()
+    let of = |(role, weight): (usize, u8)| (juniors >> role & 1) * weight;
+    inh.into_iter().enumerate().map(of).sum()
 }
 
-/// For each of 24 users the set of the roles that the user may act in; a user
-/// who isn't there may act in none.
-pub fn role_sets(base: &[u8]) -> [u8; 24] {
-    let mut sets = [0; 24];
-    let roles = tables::role_count(base);
-    let users = part(base, tables::USERS).chunks_exact(4);
-    for (user, set) in users.zip(&mut sets) {
-        let parameter = u32::from_le_bytes([user[0], user[1], user[2], user[3]]);
-        for role in 0..roles {
-            if parameter.is_multiple_of(CODES[usize::from(role)]) {
-                *set |= 1 << role;
-            }
+/// For each role the set of the users who may act in it.
+pub fn holders(base: &Base) -> Holders {
+    let mut holders = [0; 8];
+    for (user, parameter) in base.users.iter().enumerate() {
+        let parameter = u32::from_le_bytes(*parameter);
+        for (role, code) in CODES.into_iter().enumerate() {
+            let held = role < base.roles.into() && parameter % code == 0;
+            holders[role] |= u32::from(held) << user;
         }
     }
-    sets
+    holders
 }

@@ -26,16 +26,16 @@ fn spread_with(conditions: &[GroupCondition]) -> Vec<u8> {
     plan.bytes()
 }
 
-/// The heaviest role weighs 14, and six users hold it: 84 is their sum and no
-/// other's. 71 is 14, 14, 14, 14, 10 and 5.
+/// The heaviest role weighs 18, and six users hold it: 108 is their sum and no
+/// other's. 95 is five times 18 and 5; 90 is five times 18; a role weighs 4.
 #[test]
 fn a_group_among_the_most_cells() {
     for (conditions, k) in [
-        (vec![(1, 2, 85)], 0),
-        (vec![(1, 2, 84)], 6),
-        (vec![(1, 4, 71)], 6),
-        (vec![(1, 4, 70)], 5),
-        (vec![(1, 1, 2)], 1),
+        (vec![(1, 2, 109)], 0),
+        (vec![(1, 2, 108)], 6),
+        (vec![(1, 4, 95)], 6),
+        (vec![(1, 4, 90)], 5),
+        (vec![(1, 1, 5)], 1),
     ] {
         let base = spread_with(&conditions);
         expect_report(&base, at_minute(0), 16 * RECORD, &[k; 16]);

@@ -1,0 +1,159 @@
+//! What is measured: a call on a base, by the library, the twin or the model.
+
+use compare::questions::at_minute;
+use compare::shop::small_shop;
+use model::Context;
+use twin::worst;
+
+use crate::bases::{full_base, many_contexts, most_conflicts, typical_shop};
+
+#[derive(Clone, Copy, PartialEq, Eq)]
+pub enum Call {
+    Check,
+    Decide,
+    Report,
+    Conflicts,
+}
+
+/// Who answers.
+#[derive(Clone, Copy, Debug, PartialEq, Eq)]
+pub enum Who {
+    Library,
+    Twin,
+    Model,
+}
+
+pub const ALL: [Who; 3] = [Who::Library, Who::Twin, Who::Model];
+
+impl Who {
+    pub fn name(self) -> &'static str {
+        match self {
+            Who::Library => "library",
+            Who::Twin => "twin",
+            Who::Model => "model",
+        }
+    }
+}
+
+/// A call and what it is handed.
+pub struct Case {
+    pub name: String,
+    pub call: Call,
+    pub base: Vec<u8>,
+    pub at: Context,
+    /// Asked of permission 0.
+    pub group: Vec<u8>,
+}
+
+/// A buffer that suffices for every call.
+pub type Buffer = [u8; 3 * 2_784];
+
+impl Case {
+    /// What program `release_list` reads: the context and the base.
+    pub fn input(&self) -> Vec<u8> {
+        let [low, high] = (self.at.minute as u16).to_le_bytes();
+        [&[low, high, 0, 0], &self.base[..]].concat()
+    }
+
+    /// The answer: the refusal, and 256 times the count.
+    pub fn answer(&self, who: Who, out: &mut Buffer) -> u64 {
+        match who {
+            Who::Library => self.by_library(out),
+            Who::Twin => self.by_twin(out),
+            Who::Model => self.by_model(out),
+        }
+    }
+
+    fn by_library(&self, out: &mut Buffer) -> u64 {
+        let at = compare::library_context(self.at);
+        let number = |answer: release::answers::Answer| {
+            u64::from(answer.refusal) + 256 * u64::from(answer.count)
+        };
+        match self.call {
+            Call::Check => release::answers::check(&self.base).into(),
+            Call::Decide => release::answers::decide(&self.base, 0, at, &self.group).into(),
+            Call::Report => number(release::answers::report(&self.base, at, out)),
+            Call::Conflicts => number(release::answers::conflicts(&self.base, out)),
+        }
+    }
+
+    fn by_twin(&self, out: &mut Buffer) -> u64 {
+        match self.call {
+            Call::Check => twin::check(&self.base).into(),
+            Call::Decide => twin::decide(&self.base, 0, self.at, &self.group).into(),
+            Call::Report => number(twin::report(&self.base, self.at, out)),
+            Call::Conflicts => number(twin::conflicts(&self.base, out)),
+        }
+    }
+
+    fn by_model(&self, out: &mut Buffer) -> u64 {
+        match self.call {
+            Call::Check => model::check(&self.base).into(),
+            Call::Decide => model::decide(&self.base, 0, self.at, &self.group).into(),
+            Call::Report => number(model::report(&self.base, self.at, out)),
+            Call::Conflicts => number(model::conflicts(&self.base, out)),
+        }
+    }
+}
+
+fn number(answer: model::Answer) -> u64 {
+    u64::from(answer.refusal) + 256 * u64::from(answer.count)
+}
+
+pub fn cases() -> Vec<Case> {
+    let small = small_shop().bytes();
+    let typical = typical_shop().bytes();
+    let full = full_base().bytes();
+    let six: Vec<u8> = (0..6).flat_map(|i| [i, i]).collect();
+    let mut cases = vec![
+        case("check small shop", Call::Check, &small, &[]),
+        case("check typical shop", Call::Check, &typical, &[]),
+        case("check longest base", Call::Check, &full, &[]),
+        case("decide small shop", Call::Decide, &small, &[0, 0, 2, 2]),
+        case("decide typical shop", Call::Decide, &typical, &[0, 0, 6, 3]),
+        case("decide full base", Call::Decide, &full, &six),
+        case("report small shop", Call::Report, &small, &[]),
+        case("report typical shop", Call::Report, &typical, &[]),
+    ];
+    let reports = worst::all().map(|(name, plan)| {
+        let name = format!("report {name}");
+        case(&name, Call::Report, &plan.bytes(), &[])
+    });
+    cases.extend(reports);
+    let conflicts = [
+        ("small shop", small),
+        ("typical shop", typical),
+        ("most records", most_conflicts().bytes()),
+        ("contexts", many_contexts().bytes()),
+    ];
+    cases.extend(conflicts.map(|(name, base)| {
+        let name = format!("conflicts {name}");
+        case(&name, Call::Conflicts, &base, &[])
+    }));
+    cases
+}
+
+fn case(name: &str, call: Call, base: &[u8], group: &[u8]) -> Case {
+    Case {
+        name: name.to_string(),
+        call,
+        base: base.to_vec(),
+        at: at_minute(600),
+        group: group.to_vec(),
+    }
+}
+
+#[cfg(test)]
+mod tests {
+    use super::*;
+
+    #[test]
+    fn all_give_the_same_answer_and_nobody_refuses() {
+        for case in cases() {
+            let answers = ALL.map(|who| case.answer(who, &mut [0; 3 * 2_784]));
+            assert!(answers.iter().all(|answer| *answer == answers[0]));
+            let full = case.name == "decide full base";
+            assert_eq!(answers[0] % 256, if full { 17 } else { 0 }, "{}", case.name);
+        }
+    }
+}

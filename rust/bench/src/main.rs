@@ -1,0 +1,75 @@
+//! What the library's calls cost, beside the model and a tuned twin.
+//!
+//!     cargo run --offline -p bench --profile measure
+//!     cargo run --offline -p bench --profile measure -- --instructions
+//!
+//! The first prints nanoseconds a call, the second instructions by valgrind.
+//! With words behind, only cases with one of them in their names.
+//!
+//!     bench --once CASE WHO
+//!     bench --input CASE FILE
+//!
+//! The first makes one call by `library`, `twin` or `model`, for a tool that
+//! counts. The second writes a file: what program `release_list` reads to
+//! report on the case's base.
+
+mod bases;
+mod cases;
+mod counting;
+mod timing;
+
+use cases::{cases, Case, ALL};
+
+fn main() {
+    let words: Vec<String> = std::env::args().skip(1).collect();
+    let words: Vec<&str> = words.iter().map(String::as_str).collect();
+    match words[..] {
+        ["--once", name, by] => once(name, by),
+        ["--input", name, file] => {
+            std::fs::write(file, case_named(name).input()).expect("the file can be written");
+        }
+        ["--instructions", ref some @ ..] => {
+            let cases = chosen(some);
+            let counts = cases.iter().map(counting::instructions).collect();
+            print_table("instructions", &cases, counts);
+        }
+        ref some => {
+            let cases = chosen(some);
+            print_table("ns", &cases, timing::least_times(&cases));
+        }
+    }
+}
+
+/// The cases with one of the words in their names, or all.
+fn chosen(words: &[&str]) -> Vec<Case> {
+    let mut cases = cases();
+    cases.retain(|case| words.is_empty() || words.iter().any(|word| case.name.contains(word)));
+    cases
+}
+
+fn once(name: &str, by: &str) {
+    let who = ALL.into_iter().find(|who| who.name() == by);
+    let who = who.unwrap_or_else(|| panic!("nobody is called {by}"));
+    counting::once(&case_named(name), who);
+}
+
+fn case_named(name: &str) -> Case {
+    let case = cases().into_iter().find(|case| case.name == name);
+    case.unwrap_or_else(|| panic!("there is no case {name}"))
+}
+
+/// A line a case: the three costs, library over twin and model over library.
+fn print_table(unit: &str, cases: &[Case], costs: Vec<[f64; 3]>) {
+    println!(
+        "{unit:<24}{:>12}{:>12}{:>12}{:>14}{:>15}",
+        "library", "twin", "model", "library/twin", "model/library"
+    );
+    for (case, [library, twin, model]) in cases.iter().zip(costs) {
+        println!(
+            "{:<24}{library:>12.0}{twin:>12.0}{model:>12.0}{:>14.2}{:>15.2}",
+            case.name,
+            library / twin,
+            model / library
+        );
+    }
+}

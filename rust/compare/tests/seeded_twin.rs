@@ -1,0 +1,107 @@
+//! Compares the tuned twin with the library, byte for byte: it has to take the
+//! same steps, so it shows the same groups.
+
+use compare::builder::BaseBuilder;
+use compare::clashing::clashing_base;
+use compare::damage::*;
+use compare::lent::Lent;
+use compare::library_context;
+use compare::lively::{full_base, heavy_base, lively_base};
+use compare::questions::{any_context, any_permission, random_question};
+use compare::random::Random;
+use compare::shown::RECORD;
+use compare::sparse::sparse_base;
+use compare::valid::{random_base, Size};
+use model::{Base, Context};
+use twin::worst;
+
+/// Asserts that the two agree on the check, the report and the conflict list.
+fn compare_calls(random: &mut Random, base: &[u8], at: Context) {
+    assert_eq!(u32::from(twin::check(base)), release::answers::check(base));
+    let length = random.pick(&[0, 12, 13, 50, 16 * RECORD, 16 * RECORD + 9]);
+    let mut by_library = Lent::noisy(random, length);
+    let mut by_twin = by_library.clone();
+    let library = release::answers::report(base, library_context(at), by_library.buffer());
+    let twin = twin::report(base, at, by_twin.buffer());
+    assert_eq!((u32::from(twin.refusal), twin.count), numbers(library));
+    assert_eq!(by_twin.first_difference(&by_library), None);
+
+    let whole = 3 * release::answers::conflicts(base, &mut []).count as usize;
+    let length = random.pick(&[whole, whole + 7, whole.saturating_sub(1)]);
+    let mut by_library = Lent::noisy(random, length);
+    let mut by_twin = by_library.clone();
+    let library = release::answers::conflicts(base, by_library.buffer());
+    let twin = twin::conflicts(base, by_twin.buffer());
+    assert_eq!((u32::from(twin.refusal), twin.count), numbers(library));
+    assert_eq!(by_twin.first_difference(&by_library), None);
+}
+
+fn numbers(answer: release::answers::Answer) -> (u32, u32) {
+    (answer.refusal, answer.count)
+}
+
+/// Asserts that the two decide alike.
+fn compare_decision(base: &[u8], permission: u32, at: Context, group: &[u8]) {
+    let by_twin = twin::decide(base, permission, at, group);
+    let by_library = release::answers::decide(base, permission, library_context(at), group);
+    assert_eq!(u32::from(by_twin), by_library);
+}
+
+fn sound_base(random: &mut Random) -> BaseBuilder {
+    match random.below(12) {
+        0 => random_base(random, Size::Small),
+        1 => random_base(random, Size::Any),
+        2 => full_base(random),
+        3 => heavy_base(random),
+        4..=6 => sparse_base(random, 24),
+        7..=8 => clashing_base(random),
+        _ => lively_base(random, 24),
+    }
+}
+
+#[test]
+fn seeded_comparison() {
+    let mut random = Random::new(81);
+    for _ in 0..2_000 {
+        let records = sound_base(&mut random);
+        let image = records.image();
+        let at = any_context(&mut random, &records);
+        compare_calls(&mut random, &image.bytes, at);
+        let base = Base::read(&image.bytes).expect("the base passes");
+        for _ in 0..4 {
+            let asked = random_question(&mut random, &records, &base);
+            compare_decision(&image.bytes, asked.permission, asked.at, &asked.group);
+            let damaged = any_damage(&mut random, &image);
+            compare_calls(&mut random, &damaged, at);
+            compare_decision(&damaged, asked.permission, asked.at, &asked.group);
+        }
+    }
+}
+
+#[test]
+fn loose_bytes() {
+    let mut random = Random::new(82);
+    for _ in 0..2_000 {
+        let base = random_bytes(&mut random);
+        let at = any_context(&mut random, &BaseBuilder::new(1));
+        compare_calls(&mut random, &base, at);
+        let permission = any_permission(&mut random, 16);
+        compare_decision(&base, permission, at, &[0, 0]);
+    }
+}
+
+#[test]
+fn worst_bases() {
+    let mut random = Random::new(83);
+    let plans = [
+        worst::spread(),
+        worst::gathered(),
+        worst::capped(),
+        worst::sixes(),
+        worst::few_roles(),
+    ];
+    for plan in plans {
+        let at = compare::questions::at_minute(0);
+        compare_calls(&mut random, &plan.bytes(), at);
+    }
+}

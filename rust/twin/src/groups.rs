@@ -1,0 +1,56 @@
+//! The decision on a group: refusals 12 to 17.
+
+use crate::base::Base;
+use crate::conditions::holds;
+use crate::levels::Weights;
+use crate::weights::{role_weights, Setting};
+use crate::{CODES, MOST};
+
+/// 0 where the group is granted, else the first of refusals 12 to 17 that
+/// applies.
+pub fn group_refusal(base: &Base, permission: u8, setting: &Setting, group: &[u8]) -> u8 {
+    let (entries, odd) = group.as_chunks::<2>();
+    if entries.is_empty() || !odd.is_empty() || MOST < entries.len() {
+        return 12;
+    }
+    if entries.iter().any(|entry| unknown(base, entry)) {
+        return 13;
+    }
+    if (1..entries.len()).any(|i| stands_before(entries, i)) {
+        return 14;
+    }
+    if entries.iter().any(|entry| !may_act(base, entry)) {
+        return 15;
+    }
+    let w = role_weights(base, setting, permission);
+    if entries.iter().any(|entry| weight_of(w, entry) == 0) {
+        return 16;
+    }
+    let sum = entries.iter().map(|entry| weight_of(w, entry)).sum();
+    let set = entries
+        .iter()
+        .fold(0, |set, entry| set | 1 << (entry[1] & 7));
+    let mut own = base.clauses.iter().filter(|clause| clause[0] == permission);
+    match holds(&mut own, entries.len() as u32, sum, set) {
+        true => 0,
+        false => 17,
+    }
+}
+
+fn unknown(base: &Base, &[user, role]: &[u8; 2]) -> bool {
+    base.users.len() <= usize::from(user) || base.roles <= role
+}
+
+fn stands_before(entries: &[[u8; 2]], i: usize) -> bool {
+    let (before, later) = entries.split_at(i);
+    before.iter().any(|entry| entry[0] == later[0][0])
+}
+
+fn may_act(base: &Base, &[user, role]: &[u8; 2]) -> bool {
+    let parameter = u32::from_le_bytes(base.users[usize::from(user)]);
+    parameter.is_multiple_of(CODES[usize::from(role & 7)])
+}
+
+fn weight_of(w: Weights, entry: &[u8; 2]) -> u32 {
+    w[usize::from(entry[1] & 7)].into()
+}
