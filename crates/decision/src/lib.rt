@@ -37,7 +37,7 @@ pub fn decide_checked(base: &[u8], permission: u8, s: Fixed, group: &[u8]) -> u8
     if groups::length_refused(group) {
         return 12;
     }
-    let users = reader::table(base, reader::USERS);
+    let users = reader::trailer::part(base, reader::USERS);
     let roles = reader::trailer::role_count(base);
     if groups::some_unknown(group, users.len() / 4, roles) {
         return 13;
@@ -52,7 +52,7 @@ pub fn decide_checked(base: &[u8], permission: u8, s: Fixed, group: &[u8]) -> u8
     if groups::some_weightless(group, w) {
         return 16;
     }
-    let k = reader::table(base, reader::CLAUSES);
+    let k = reader::trailer::part(base, reader::CLAUSES);
     let n = groups::entry_count(group);
     if conditions::permission_holds(
         k,

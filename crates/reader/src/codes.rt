@@ -17,14 +17,17 @@ fn code_divides(r: usize, x: u32) -> bool
 }
 
 // The parameter is the product of different codes of roles below `roles`: dividing each of them out once leaves 1.
+// The loop's end is a constant, so that the compiler writes out all turns and divides by constants.
 fn parameter_ok(x: u32, roles: u8) -> bool
     requires { ⌜ roles ≤ 8 ⌝ }
     ensures { λ ok. ⌜ ok ≡ parameterOk roles x ⌝ }
 {
     let mut rest = x;
-    for r in 0..roles as usize {
-        if code_divides(r, rest) {
-            rest = rest / CODES[r];
+    for r in 0..8usize {
+        if r < roles as usize {
+            if code_divides(r, rest) {
+                rest = rest / CODES[r];
+            }
         }
     }
     rest == 1

@@ -5,16 +5,20 @@ use mathlib.Core.Path.{_≡_, refl, sym, _∙_}
 use mathlib.Core.Logic.{⊎-elim}
 use mathlib.Core.List.{List}
 use native.Mathlib.Omega.{arith}
-use borrow.Author.Tests.{eqb-true, eq-eqb, ne-eqb, lt-ltb, le-ltb, ltb-true}
-use lib.ListN.{getD}
+use borrow.Author.Tests.{eqb-true, eqb-false, ne-eqb, lt-ltb, le-ltb, ltb-true}
+use lib.ListN.{length, getD, set}
+use lib.Seq.{getD-set-same, getD-set-other}
 use lib.Dec.{ltb, eqb}
 use Rattle.folds.specs.Below.{anyBelow, firstBelow}
-use Rattle.folds.proofs.Bools.{met-or-not, clash, and-left, and-right}
+use Rattle.folds.proofs.Bools.{met-or-not, and-left, and-right}
 use Rattle.folds.proofs.Tests.{any-each, first-lt, first-more, first-none, first-same}
+use Rattle.reader.specs.Tables.{policies, recordCount}
 use Rattle.reader.specs.Fields.{policyRole, policyPermission, policyWeight, policyType, policyContext}
+use Rattle.reader.specs.Rules.{policiesBad}
+use Rattle.reader.proofs.Accepted.{policy-fine}
 use Rattle.weights.specs.declared.ChosenWeights.{ChosenWeights}
 use Rattle.weights.specs.Weights.{candidate, chosen, chosenWeight, anyType, typeOne}
-use Rattle.weights.specs.Setting.{inForceBy, Noted, AreChosen}
+use Rattle.weights.specs.Setting.{inForceBy, firstOf, AreChosen}
 
 -- the weight of place i among n policies, or 0
 abbrev weightAt : List ℕ → ℕ → ℕ → ℕ
@@ -62,32 +66,21 @@ unfolding chosenWeight chosen
 chosen-same inForce others f a r p n h =
     rw (first-same (candidate inForce f a r p) (candidate others f a r p) n (λ i l. rw (h i l)))
 
+-- the role that a policy of a table A names, once the table passed the check
+pub role-small : (a : List ℕ) (i k : ℕ) → policiesBad 8 256 a ≡ false → i < recordCount policies a → k ≡ policyRole a i → k < 8
+role-small a i k fine l e = rw e (policy-fine 8 256 a i fine l .role)
+
 -- keeping what is there, or 0
 or-zero : (x : ℕ) → x ≡ cond (eqb x 0) 0 x
 or-zero x = ⊎-elim (λ e. rw e (eqb-true _ _ e)) (λ e. rw e) (met-or-not (eqb x 0))
 
--- the weights v of all roles after a policy of role k, weight w and, by t, of the type asked for
-module _ (v : ℕ → ℕ) (k w : ℕ) (t : Bool) where
-  abbrev after : ℕ → ℕ
-  after r = cond (t && (eqb r k && eqb (v k) 0)) w (v r)
-
-  -- are what one more active policy makes of them
-  after-is : (r : ℕ) → after r ≡ cond (eqb (v r) 0) (cond ((eqb k r && true) && (t && true)) w 0) (v r)
-  after-is r =
-      ⊎-elim (λ e. let q : k ≡ r = eqb-true _ _ e in rw (q, eq-eqb r r refl) (by t))
-      (λ e. none (eqb k r) (eqb r k) t e (ne-eqb r k (λ q. clash (eqb k r) (eq-eqb _ _ (sym q)) e)))
-      (met-or-not (eqb k r))
-    where
-      by : (t : Bool) → cond (t && (true && eqb (v r) 0)) w (v r) ≡ cond (eqb (v r) 0) (cond (t && true) w 0) (v r)
-      by true = refl
-      by false = or-zero (v r)
-
-      none : (x y t : Bool) → x ≡ false → y ≡ false →
-          cond (t && (y && eqb (v k) 0)) w (v r) ≡ cond (eqb (v r) 0) (cond ((x && true) && (t && true)) w 0) (v r)
-      none true y t e g = clash true refl e
-      none false true t e g = clash true refl g
-      none false false true e g = or-zero (v r)
-      none false false false e g = or-zero (v r)
+-- the weights v of all roles with x as that of role k, unless there is one already
+after : (v : List ℕ) (k x : ℕ) → k < length v → (r : ℕ) →
+    getD (set v k (firstOf (getD v k 0) x)) r 0 ≡ firstOf (getD v r 0) (cond (eqb k r) x 0)
+after v k x l r =
+    ⊎-elim (λ e. let q : k ≡ r = eqb-true _ _ e in rw (e, ← q) (getD-set-same v k _ 0 l))
+    (λ e. rw e (getD-set-other v k r _ 0 (λ q. eqb-false k r e (sym q)) ∙ or-zero (getD v r 0)))
+    (met-or-not (eqb k r))
 
 module _ (s : ℕ) (a : List ℕ) (i p : ℕ) (pos : (k : ℕ) → k < i → 1 ≤ policyWeight a k) where
   -- a policy for another permission, or one that is not active, changes no first weight
@@ -106,17 +99,24 @@ module _ (s : ℕ) (a : List ℕ) (i p : ℕ) (pos : (k : ℕ) → k < i → 1 �
           or-zero (chosenWeight (inForceBy s) g a i r p)
           ∙ sym (chosen-more (inForceBy s) g a r p i pos ∙ rw (off (eqb (policyRole a i) r) (eqb (policyPermission a i) p) (inForceBy s (policyContext a i)) (g (policyType a i)) e))
 
-  -- an active policy for the permission is noted
-  pub chosen-step : (f g : ChosenWeights) → (eqb (policyPermission a i) p && inForceBy s (policyContext a i)) ≡ true →
-      AreChosen s a i p f → Noted f (policyRole a i) (policyWeight a i) (policyType a i) g → AreChosen s a (i + 1) p g
-  chosen-step f g e w n =
+  -- an active policy for the permission counts for its role k where none did before
+  pub chosen-step : (own inh : List ℕ) (k x y : ℕ) → (eqb (policyPermission a i) p && inForceBy s (policyContext a i)) ≡ true →
+      k ≡ policyRole a i → x ≡ firstOf (getD own k 0) (policyWeight a i) →
+      y ≡ firstOf (getD inh k 0) (cond (eqb (policyType a i) 1) (policyWeight a i) 0) → k < length own → k < length inh →
+      AreChosen s a i p record { own = own; inh = inh } → AreChosen s a (i + 1) p record { own = set own k x; inh = set inh k y }
+  chosen-step own inh k x y e at-k at-own at-inh m n w =
       record {
-        own = λ r l. n .own .role r ∙ step anyType r (λ j. getD (f .own) j 0) true (w .own r l) refl;
-        inh = λ r l. n .inh r ∙ step typeOne r (λ j. getD (f .inh) j 0) (eqb (policyType a i) 1) (w .inh r l) refl;
+        own = λ r l. rw at-own (after own k _ m r) ∙ step anyType r (w .own r l);
+        inh = λ r l. rw at-inh (after inh k _ n r) ∙ step typeOne r (w .inh r l);
       }
     where
-      step : (o : ℕ → Bool) (r : ℕ) (v : ℕ → ℕ) (t : Bool) → v r ≡ chosenWeight (inForceBy s) o a i r p → o (policyType a i) ≡ t →
-          after v (policyRole a i) (policyWeight a i) t r ≡ chosenWeight (inForceBy s) o a (i + 1) r p
-      step o r v t here c =
-          after-is v (policyRole a i) (policyWeight a i) t r
-          ∙ sym (chosen-more (inForceBy s) o a r p i pos ∙ rw (← here, c, and-left (eqb (policyPermission a i) p) _ e, and-right (eqb (policyPermission a i) p) _ e))
+      joined : (z t : Bool) (w : ℕ) → cond z (cond t w 0) 0 ≡ cond ((z && true) && (t && true)) w 0
+      joined true true w = refl
+      joined true false w = refl
+      joined false t w = refl
+
+      step : (o : ℕ → Bool) (r : ℕ) {v : ℕ} → v ≡ chosenWeight (inForceBy s) o a i r p →
+          firstOf v (cond (eqb k r) (cond (o (policyType a i)) (policyWeight a i) 0) 0) ≡ chosenWeight (inForceBy s) o a (i + 1) r p
+      step o r here =
+          rw (joined (eqb k r) (o (policyType a i)) (policyWeight a i), here, at-k)
+          (sym (chosen-more (inForceBy s) o a r p i pos ∙ rw (and-left (eqb (policyPermission a i) p) _ e, and-right (eqb (policyPermission a i) p) _ e)))

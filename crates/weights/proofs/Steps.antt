@@ -1,7 +1,7 @@
 -- What a loop of this layer knows after one turn more.
 use Prim.Native.Nat.{ℕ, _+_, _^_, _<_, _≤_, _-_}
-use mathlib.Core.Bool.{Bool, true, false, _&&_, _||_, and-true, and-false, or-false, cond}
-use mathlib.Core.Path.{_≡_, refl, sym, ap, _∙_}
+use mathlib.Core.Bool.{Bool, true, false, _||_, and-true, and-false, or-false}
+use mathlib.Core.Path.{_≡_, sym, ap, _∙_}
 use mathlib.Core.Logic.{⊎-elim}
 use mathlib.Core.List.{List}
 use native.Mathlib.Omega.{arith}
@@ -22,7 +22,7 @@ use Rattle.reader.proofs.Accepted.{hierarchy-fine}
 use Rattle.weights.specs.declared.Context.{Context}
 use Rattle.weights.specs.Contexts.{contextClauseHolds, clauseOfHolds}
 use Rattle.weights.specs.Seniority.{seniorTo}
-use Rattle.weights.specs.Setting.{KeptFirst, nextJunior}
+use Rattle.weights.specs.Setting.{nextJunior}
 use Rattle.weights.proofs.Chains.{starts, senior-step}
 
 -- a clause that holds adds its context number
@@ -34,18 +34,6 @@ holding-more at c s n i inv e = rw (in-added, inv, any-next, e, and-true)
 pub holding-same : (at : Context) (c : List ℕ) (s n i : ℕ) → inSet s n ≡ anyBelow i (clauseOfHolds at c n) →
     contextClauseHolds at c i ≡ false → inSet s n ≡ anyBelow (i + 1) (clauseOfHolds at c n)
 holding-same at c s n i inv e = rw (any-next, e, and-false, or-false) inv
-
--- a weight that is stored where there was none
-pub kept : (v : List ℕ) (r w : ℕ) → r < length v → getD v r 0 ≡ 0 → KeptFirst v r w (set v r w)
-kept v r w l e = record { role = λ k. by k (eqb k r) refl }
-  where
-    by : (k : ℕ) (t : Bool) → eqb k r ≡ t → getD (set v r w) k 0 ≡ cond (t && eqb (getD v r 0) 0) w (getD v k 0)
-    by k true q = rw (eqb-true k r q, e) (getD-set-same v r w 0 l)
-    by k false q = getD-set-other v r k w 0 (eqb-false k r q)
-
--- no weight is stored where there was one
-pub kept-old : (v : List ℕ) (r w : ℕ) → (getD v r 0 ≡ 0 → ⊥) → KeptFirst v r w v
-kept-old v r w e = record { role = λ k. rw (ne-eqb _ _ e, and-false) }
 
 -- a record of role s adds its junior and that one's juniors
 pub junior-more : (h known : List ℕ) (x s j i : ℕ) → inSet x j ≡ anyBelow i (nextJunior h known s j) → senior h i ≡ s →

@@ -33,14 +33,9 @@ pub record FixedBy (b : List ℕ) (s : Fixed) : Type 0 where
 abbrev pub inForceBy : ℕ → ℕ → Bool
 inForceBy s n = cond (eqb n 255) true (inSet s n)
 
--- w is the weights v with the given one for role r, unless v has one already
-pub record KeptFirst (v : List ℕ) (r given : ℕ) (w : List ℕ) : Type 0 where
-  pub role : (k : ℕ) → getD w k 0 ≡ cond (eqb k r && eqb (getD v r 0) 0) given (getD v k 0)
-
--- g is the first weights f with those of a policy of role r of that weight and type
-pub record Noted (f : ChosenWeights) (r given type : ℕ) (g : ChosenWeights) : Type 0 where
-  pub own : KeptFirst (f .own) r given (g .own)
-  pub inh : (k : ℕ) → getD (g .inh) k 0 ≡ cond (eqb type 1 && (eqb k r && eqb (getD (f .inh) r 0) 0)) given (getD (f .inh) k 0)
+-- the weight kept, or the given one where none is
+abbrev pub firstOf : ℕ → ℕ → ℕ
+firstOf kept given = cond (eqb kept 0) given kept
 
 -- the weights of the policies that count among the first n of the table A, a role each
 pub record AreChosen (s : ℕ) (a : List ℕ) (n p : ℕ) (f : ChosenWeights) : Type 0 where

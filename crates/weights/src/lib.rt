@@ -37,8 +37,8 @@ pub fn setting(base: &[u8], at: Context) -> Fixed
     requires { ⌜ refusalOf (now base) ≡ 0 ⌝ }
     ensures { λ s. ⌜ (s .at ≡ at) × FixedBy (now (base .entry)) s ⌝ }
 {
-    let contexts = contexts::holding(reader::table(base, reader::CONTEXTS), at);
-    let juniors = seniority::juniors(reader::table(base, reader::HIERARCHY));
+    let contexts = contexts::holding(reader::trailer::part(base, reader::CONTEXTS), at);
+    let juniors = seniority::juniors(reader::trailer::part(base, reader::HIERARCHY));
     Fixed {
         at,
         contexts,
@@ -54,7 +54,7 @@ pub fn role_weights(base: &[u8], s: Fixed, permission: u8) -> [u8; 8]
     let contexts = s.contexts;
     let juniors = s.juniors;
     let first = policies::chosen_weights(
-        reader::table(base, reader::POLICIES),
+        reader::trailer::part(base, reader::POLICIES),
         contexts,
         permission,
     );

@@ -26,3 +26,11 @@ pub fn role_bit(r: u8) -> u8
 {
     1u8 << r
 }
+
+// Inner: the set of j alone, of numbers below 64.
+pub fn wide_bit(j: usize) -> u64
+    requires { ⌜ j < 64 ⌝ }
+    ensures { λ b. ⌜ b ≡ 2 ^ j ⌝ }
+{
+    1u64 << j
+}
