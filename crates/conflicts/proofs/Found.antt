@@ -1,7 +1,7 @@
 -- What was worked out beforehand says the same as the rules: the rows of bits are those of the conflict list.
-use Prim.Native.Nat.{ℕ, _-_, _<_, _≤_}
-use mathlib.Core.Bool.{Bool, true, false, _&&_, not, cond, and-false}
-use mathlib.Core.Path.{_≡_, refl, ap₂, _∙_}
+use Prim.Native.Nat.{ℕ, _<_, _≤_}
+use mathlib.Core.Bool.{Bool, true, false, _&&_, not, and-false}
+use mathlib.Core.Path.{_≡_, refl, _∙_}
 use mathlib.Core.Logic.{_⊎_, ⊎-elim}
 use mathlib.Core.List.{List}
 use native.Mathlib.Omega.{arith}
@@ -14,7 +14,7 @@ use Rattle.folds.specs.Sets.{inSet}
 use Rattle.folds.proofs.Bools.{met-or-not}
 use Rattle.folds.proofs.Tests.{any-found, any-same, any-tail}
 use Rattle.folds.proofs.Sets.{meet-some}
-use Rattle.reader.specs.Tables.{hierarchy, users, contexts, policies, exclusions, roleCount, permissionCount, tableOf, recordCount}
+use Rattle.reader.specs.Tables.{hierarchy, contexts, policies, exclusions, roleCount, permissionCount, tableOf, recordCount}
 use Rattle.reader.specs.Fields.{policyRole, policyPermission, policyType, policyContext}
 use Rattle.reader.specs.Rules.{refusalOf}
 use Rattle.reader.proofs.Frame.{roles-range, permissions-le}
@@ -22,16 +22,15 @@ use Rattle.reader.proofs.Accepted.{PolicyFine, accepted, policy-fine}
 use Rattle.weights.specs.Seniority.{seniorTo}
 use Rattle.weights.proofs.Chains.{senior-down}
 use Rattle.conflicts.specs.Related.{related}
-use Rattle.conflicts.specs.Conflicts.{contradict, covers, coverBoth, overlap, holdsBoth}
-use Rattle.conflicts.specs.Rows.{slotOf, numberAt, named, Relations, Covers, Excluded, relatedBy, contradictBy, overlapBy, inside, IsRow, inRow, Rows}
+use Rattle.conflicts.specs.Conflicts.{contradict, covers, coverBoth, overlap}
+use Rattle.conflicts.specs.Rows.{slotOf, numberAt, named, Relations, Covers, Excluded, relatedBy, contradictBy, overlapBy, Rows, Contradictions, Overlaps}
 use Rattle.conflicts.proofs.Relating.{related-sym}
 
--- pairs that lie inside are the only ones that count
-inside-same : (n m : ℕ) (p q : ℕ → ℕ → Bool) → ((i j : ℕ) → i < n → j < m → p i j ≡ q i j) → (i j : ℕ) → inside n m p i j ≡ inside n m q i j
-inside-same n m p q h i j =
-    ⊎-elim
-    (λ e. ⊎-elim (λ f. rw (h i j (ltb-true _ _ e) (ltb-true _ _ f))) (λ f. rw f) (met-or-not (ltb j m)))
-    (λ e. rw e) (met-or-not (ltb i n))
+-- what agrees below n and m has the same rows
+rows-same : (n m : ℕ) (p q : ℕ → ℕ → Bool) (rows : List ℕ) → ((i j : ℕ) → i < n → j < m → p i j ≡ q i j) → Rows n m p rows → Rows n m q rows
+rows-same n m p q rows h are = record {
+  row = λ i j l. are .row i j l ∙ ⊎-elim (λ e. rw (h i j l (ltb-true _ _ e))) (λ e. rw e) (met-or-not (ltb j m));
+}
 
 -- the number of a context number's slot is that number
 number-slot : (n : ℕ) → (n ≤ 15) ⊎ (n ≡ 255) → (numberAt (slotOf n) ≡ n) × (slotOf n < 17)
@@ -97,23 +96,22 @@ module _ (b : List ℕ) (ok : refusalOf b ≡ 0) where
       ∙ any-same (λ r. inSet (getD covered i 0) r && inSet (getD covered j 0) r) p 8 (λ r m. rw (cov .policy i r li m, cov .policy j r lj m))
       ∙ any-tail p (roleCount b) 8 small (λ r h m. rw (covers-high i r li h))
 
-  -- the rows are those of the list
-  pub rows-found : (names : ℕ) (rel apart covered rows : List ℕ) →
+  -- the rows of kind 1, by the rows of related slots
+  pub contradictions-found : (names : ℕ) (rel rows : List ℕ) →
       Relations (tableOf b contexts) names rel → ((s : ℕ) → inSet names s ≡ named (tableOf b policies) s) →
-      Covers (tableOf b hierarchy) (tableOf b policies) covered → Excluded (tableOf b exclusions) apart →
-      ((q : ℕ) → q < 152 → IsRow rel apart covered (tableOf b policies) (tableOf b users) (roleCount b) (tableOf b exclusions) q (getD rows q 0)) →
-      Rows b rows
-  unfolding inRow contradict overlap
-  rows-found names rel apart covered rows relations named-is cov apart-is are = record {
-    row = λ q j l. are q l .bit j ∙ ap₂ (λ (x y : Bool). cond (ltb q 64) x (cond (ltb q 128) y (inside (recordCount users (tableOf b users)) (recordCount exclusions (tableOf b exclusions)) (holdsBoth (roleCount b) (tableOf b users) (tableOf b exclusions)) (q - 128) j))) (one q j) (two (q - 64) j);
-  }
-    where
-      one : (i j : ℕ) → inside (recordCount policies (tableOf b policies)) (recordCount policies (tableOf b policies)) (contradictBy rel (tableOf b policies)) i j
-          ≡ inside (recordCount policies (tableOf b policies)) (recordCount policies (tableOf b policies)) (contradict (tableOf b contexts) (tableOf b policies)) i j
-      one = inside-same _ _ (contradictBy rel (tableOf b policies)) (contradict (tableOf b contexts) (tableOf b policies))
-          (λ i j li lj. rw (related-rows (tableOf b contexts) (tableOf b policies) rel names relations named-is i j li lj (fine i li .context) (fine j lj .context)))
+      Rows (recordCount policies (tableOf b policies)) (recordCount policies (tableOf b policies)) (contradictBy rel (tableOf b policies)) rows →
+      Contradictions b rows
+  unfolding contradict
+  contradictions-found names rel rows relations named-is =
+      rows-same _ _ (contradictBy rel (tableOf b policies)) (contradict (tableOf b contexts) (tableOf b policies)) rows
+      (λ i j li lj. rw (related-rows (tableOf b contexts) (tableOf b policies) rel names relations named-is i j li lj (fine i li .context) (fine j lj .context)))
 
-      two : (i j : ℕ) → inside (recordCount policies (tableOf b policies)) (recordCount policies (tableOf b policies)) (overlapBy apart covered (tableOf b policies)) i j
-          ≡ inside (recordCount policies (tableOf b policies)) (recordCount policies (tableOf b policies)) (overlap (roleCount b) (tableOf b hierarchy) (tableOf b exclusions) (tableOf b policies)) i j
-      two = inside-same _ _ (overlapBy apart covered (tableOf b policies)) (overlap (roleCount b) (tableOf b hierarchy) (tableOf b exclusions) (tableOf b policies))
-          (λ i j li lj. rw (apart-is .permission _ _ (permission-below i li) (permission-below j lj), cover-rows covered cov i j li lj))
+  -- the rows of kind 2, by the sets of excluded permissions and of covered roles
+  pub overlaps-found : (apart covered rows : List ℕ) →
+      Covers (tableOf b hierarchy) (tableOf b policies) covered → Excluded (tableOf b exclusions) apart →
+      Rows (recordCount policies (tableOf b policies)) (recordCount policies (tableOf b policies)) (overlapBy apart covered (tableOf b policies)) rows →
+      Overlaps b rows
+  unfolding overlap
+  overlaps-found apart covered rows cov apart-is =
+      rows-same _ _ (overlapBy apart covered (tableOf b policies)) (overlap (roleCount b) (tableOf b hierarchy) (tableOf b exclusions) (tableOf b policies)) rows
+      (λ i j li lj. rw (apart-is .permission _ _ (permission-below i li) (permission-below j lj), cover-rows covered cov i j li lj))

@@ -1,4 +1,5 @@
 pub mod Tables
 pub mod Relating
+pub mod Bits
 pub mod Lists
 pub mod Found

@@ -1,30 +1,46 @@
 -- Laws of the conflict list: records written one behind the other, their number, and the rows of bits as the list.
-use Prim.Native.Nat.{ℕ, zero, suc, _+_, _*_, _/_, _%_, _^_, _<_, _≤_}
-use mathlib.Core.Bool.{Bool, true, false, _&&_, cond}
-use mathlib.Core.Path.{_≡_, refl, ap, ap₂, _∙_}
-use mathlib.Core.List.{List, [], _∷_, _++_, append-assoc, append-nil}
+use Prim.Native.Nat.{ℕ, zero, suc, _+_, _-_, _*_, _^_, _<_, _≤_}
+use mathlib.Core.Bool.{Bool, true, false, _&&_, not, cond, and-true}
+use mathlib.Core.Path.{_≡_, refl, sym, ap, ap₂, _∙_}
+use mathlib.Core.List.{List, [], _∷_, _++_}
 use native.Mathlib.Numerals.{add-one, add-two}
-use native.Mathlib.Nat.{add-zero, zero-add, add-sub-cancel-left}
+use native.Mathlib.Nat.{zero-add, not-suc-le-zero}
 use native.Mathlib.Omega.{arith}
-use borrow.Author.Tests.{lt-ltb, le-ltb}
-use lib.Count.{ones}
-use lib.Dec.{ltb, lit<}
+use borrow.Author.Tests.{lt-ltb, le-ltb, eq-eqb, ne-eqb}
+use lib.Bits.{bitAnd}
+use lib.Count.{ones, trailingZeros}
+use lib.Dec.{ltb, eqb, lit<}
 use lib.ListN.{length, getD, set, drop, length-append}
-use lib.Seq.{sets, sets-eq}
+use lib.Seq.{sets, sets-eq, length-sets}
 use Rattle.folds.specs.Below.{sumBelow, countBelow, joinBelow}
 use Rattle.folds.specs.Sets.{inSet}
-use Rattle.folds.proofs.Lists.{join-none, join-more, join-split, join-tail, join-length, join-same}
+use Rattle.folds.proofs.Lists.{join-none, join-more, join-tail, join-length, join-same, sets-append}
+use Rattle.folds.proofs.Tests.{split}
 use Rattle.folds.proofs.Numbers.{sum-le-sum, count-none, count-more}
-use Rattle.folds.proofs.Sets.{ones-set, set-of-members}
+use Rattle.folds.proofs.Sets.{in-none, ones-set, set-of-members}
 use Rattle.reader.specs.Rules.{refusalOf}
 use Rattle.conflicts.proofs.Tables.{records-le}
+use Rattle.folds.proofs.Lowest.{lowest, without-lowest}
 use Rattle.reader.specs.Tables.{users, policies, exclusions, tableOf, recordCount}
 use Rattle.conflicts.specs.Conflicts.{pairsBelow, conflicts, conflictCount}
-use Rattle.conflicts.specs.Rows.{inside, inRow, Rows, rowRecords, rowsRecords}
+use Rattle.conflicts.specs.Rows.{Rows, Contradictions, Overlaps, Holders, rowRecords, rowsRecords, allRecords}
 
--- three stores side by side
-pub sets-three : (l : List ℕ) (i x y z : ℕ) → set (set (set l i x) (i + 1) y) (i + 2) z ≡ sets l i (x ∷ y ∷ z ∷ [])
-sets-three l i x y z = rw (add-one, add-two)
+-- three stores side by side, and then the rest
+pub sets-record : (l : List ℕ) (i x y z : ℕ) (r : List ℕ) → sets (set (set (set l i x) (i + 1) y) (i + 2) z) (i + 3) r ≡ sets l i (x ∷ y ∷ z ∷ r)
+sets-record l i x y z r = three ∙ sym (sets-append l i (x ∷ y ∷ z ∷ []) r)
+  where
+    three : sets (set (set (set l i x) (i + 1) y) (i + 2) z) (i + 3) r ≡ sets (sets l i (x ∷ y ∷ z ∷ [])) (i + 3) r
+    three = rw (add-one, add-two)
+
+-- what is written over leaves the length
+pub sets-long : (out next : List ℕ) (i : ℕ) (xs : List ℕ) → next ≡ sets out i xs → length next ≡ length out
+sets-long out next i xs e = ap length e ∙ simp length-sets
+
+-- three lists written one behind the other
+pub sets-all : (out out₁ out₂ out₃ xs ys zs : List ℕ) (i j : ℕ) → i ≡ 0 + length xs → out₁ ≡ sets out 0 xs → j ≡ i + length ys → out₂ ≡ sets out₁ i ys
+    → out₃ ≡ sets out₂ j zs → out₃ ≡ sets out 0 (xs ++ (ys ++ zs))
+sets-all out out₁ out₂ out₃ xs ys zs i j ei first ej second third =
+    rw (third, second, first, ej, ei) (sym (sets-append out 0 xs (ys ++ zs) ∙ sets-append (sets out 0 xs) (0 + length xs) ys zs))
 
 -- fewer lists are not longer
 join-le : (f : ℕ → List ℕ) (m n : ℕ) → m ≤ n → length (joinBelow m f) ≤ length (joinBelow n f)
@@ -34,37 +50,48 @@ join-le f m n h = rw (join-length f m, join-length f n) (sum-le-sum (λ i. lengt
 abbrev pub recordIf : ℕ → ℕ → (ℕ → Bool) → ℕ → List ℕ
 recordIf kind first p j = cond (p j) (kind ∷ first ∷ j ∷ []) []
 
--- the records of row q
-abbrev rowAt : List ℕ → ℕ → List ℕ
-rowAt rows q = rowRecords (q / 64 + 1) (q % 64) (getD rows q 0)
+-- the records of row i
+abbrev rowAt : ℕ → List ℕ → ℕ → List ℕ
+rowAt kind rows i = rowRecords kind i (getD rows i 0)
 
--- a bit that is set adds its record
-pub row-more : (kind first row j : ℕ) → inSet row j ≡ true
-    → joinBelow (j + 1) (recordIf kind first (inSet row)) ≡ joinBelow j (recordIf kind first (inSet row)) ++ (kind ∷ first ∷ j ∷ [])
-row-more kind first row j e = rw (join-more (recordIf kind first (inSet row)) j, e)
+-- no lists but empty ones
+join-empty : (f : ℕ → List ℕ) (n : ℕ) → ((i : ℕ) → i < n → f i ≡ []) → joinBelow n f ≡ []
+join-empty f n h = join-tail f 0 n (omega arith) (λ i m l. h i l) ∙ join-none f
 
--- a bit that is not set adds nothing
-pub row-skip : (kind first row j : ℕ) → inSet row j ≡ false
-    → joinBelow (j + 1) (recordIf kind first (inSet row)) ≡ joinBelow j (recordIf kind first (inSet row))
-row-skip kind first row j e = rw (join-more (recordIf kind first (inSet row)) j, e) (append-nil (joinBelow j (recordIf kind first (inSet row))))
+-- the record of the first number of which p holds, and then those of the others
+module _ (kind first t : ℕ) (p q : ℕ → Bool) (at : p t ≡ true) (least : (j : ℕ) → j < t → p j ≡ false) (others : (j : ℕ) → q j ≡ (p j && not (eqb j t))) where
+  first-record : (n : ℕ) → t < n → joinBelow n (recordIf kind first p) ≡ kind ∷ first ∷ t ∷ joinBelow n (recordIf kind first q)
+  unfolding joinBelow
+  first-record zero l = absurd (not-suc-le-zero l)
+  first-record (suc n) l =
+      split l
+      (λ e. rw (← e, at, join-empty (recordIf kind first p) t (λ j m. rw (least j m)), join-empty (recordIf kind first q) t (λ j m. rw (others j, least j m)), others t, at, eq-eqb t t refl))
+      (λ m. let d : eqb n t ≡ false = ne-eqb n t (λ e. omega arith) in rw (first-record n m, others n, d, and-true))
 
--- the records before a bit that is set, and its own, are no longer than the row's
-pub row-room : (kind first row j : ℕ) → j < 64 → inSet row j ≡ true
-    → length (joinBelow j (recordIf kind first (inSet row))) + 3 ≤ length (rowRecords kind first row)
+-- the records of a row: that of its lowest bit, and those of the rest
+pub row-next : (kind first row : ℕ) → 0 < row → row < 2 ^ 64
+    → rowRecords kind first row ≡ kind ∷ first ∷ trailingZeros 64 row ∷ rowRecords kind first (bitAnd row (row - 1))
 unfolding rowRecords
-row-room kind first row j h e =
-    omega (arith, simp (row-more kind first row j e, length-append) at (join-le (recordIf kind first (inSet row)) (j + 1) 64 (omega arith)))
+row-next kind first row h l =
+    let t = trailingZeros 64 row in
+    let low = lowest 64 row h l in
+    first-record kind first t (inSet row) (inSet (bitAnd row (row - 1))) (low .member) (low .least) (without-lowest 64 row t low) 64 (low .below)
+
+-- an empty row has none
+pub row-none : (kind first : ℕ) → rowRecords kind first 0 ≡ []
+unfolding rowRecords
+row-none kind first = join-empty (recordIf kind first (inSet 0)) 64 (λ j l. rw (in-none j))
 
 -- one row more
-pub rows-more : (rows : List ℕ) (q : ℕ) → rowsRecords rows (q + 1) ≡ rowsRecords rows q ++ rowRecords (q / 64 + 1) (q % 64) (getD rows q 0)
+pub rows-more : (kind : ℕ) (rows : List ℕ) (i : ℕ) → rowsRecords kind rows (i + 1) ≡ rowsRecords kind rows i ++ rowRecords kind i (getD rows i 0)
 unfolding rowsRecords
-rows-more rows q = join-more (rowAt rows) q
+rows-more kind rows i = join-more (rowAt kind rows) i
 
--- the records before a row, and its own, are no longer than those of all rows
-pub rows-room : (rows : List ℕ) (q : ℕ) → q < 152
-    → length (rowsRecords rows q) + length (rowRecords (q / 64 + 1) (q % 64) (getD rows q 0)) ≤ length (rowsRecords rows 152)
+-- the records before a row, and its own, are no longer than those of all n rows
+pub rows-room : (kind : ℕ) (rows : List ℕ) (n i : ℕ) → i < n
+    → length (rowsRecords kind rows i) + length (rowRecords kind i (getD rows i 0)) ≤ length (rowsRecords kind rows n)
 unfolding rowsRecords
-rows-room rows q h = omega (arith, simp (rows-more rows q, length-append) at (join-le (rowAt rows) (q + 1) 152 (omega arith)))
+rows-room kind rows n i h = omega (arith, simp (rows-more kind rows i, length-append) at (join-le (rowAt kind rows) (i + 1) n (omega arith)))
 
 -- 3 bytes for each number of which p holds
 row-length : (kind first : ℕ) (p : ℕ → Bool) (m : ℕ) → length (joinBelow m (recordIf kind first p)) ≡ 3 * countBelow m p
@@ -101,45 +128,27 @@ row-pairs kind first row m p h e =
     join-tail (recordIf kind first (inSet row)) m 64 h (λ j k l. rw (e j, le-ltb j m k))
     ∙ join-same (recordIf kind first (inSet row)) (recordIf kind first p) m (λ j l. rw (e j, lt-ltb j m l))
 
--- the N rows from 64 * k on, whose bits are the pairs below n and m of which p holds, have those pairs' records
-block : (rows : List ℕ) (k N n m : ℕ) (p : ℕ → ℕ → Bool) → N ≤ 64 → n ≤ N → m ≤ 64
-    → ((i j : ℕ) → i < N → inSet (getD rows (64 * k + i) 0) j ≡ inside n m p i j)
-    → joinBelow N (λ i. rowAt rows (64 * k + i)) ≡ pairsBelow (k + 1) n m p
-unfolding pairsBelow
-block rows k N n m p N≤ n≤ m≤ e =
-    join-tail (λ i. rowAt rows (64 * k + i)) n N n≤
-    (λ i h l.
-    row-pairs _ _ _ 0 (p i) (omega arith) (λ j. e i j l ∙ rw (le-ltb i n h, le-ltb j 0 (omega arith)))
-    ∙ join-none (recordIf _ _ (p i)))
-    ∙ join-same (λ i. rowAt rows (64 * k + i)) (λ i. joinBelow m (recordIf (k + 1) i (p i))) n
-    (λ i l.
-    let kind : (64 * k + i) / 64 ≡ k = omega arith in
-    let first : (64 * k + i) % 64 ≡ i = omega arith in
-    rw (kind, first) (row-pairs (k + 1) i _ m (p i) m≤ (λ j. e i j (omega arith) ∙ rw (lt-ltb i n l))))
+-- the records of n rows whose bits are the pairs below n and m of which p holds
+rows-pairs : (kind n m : ℕ) (p : ℕ → ℕ → Bool) (rows : List ℕ) → m ≤ 64 → Rows n m p rows → rowsRecords kind rows n ≡ pairsBelow kind n m p
+unfolding rowsRecords pairsBelow
+rows-pairs kind n m p rows h are =
+    join-same (rowAt kind rows) (λ i. joinBelow m (recordIf kind i (p i))) n (λ i l. row-pairs kind i _ m (p i) h (λ j. are .row i j l))
 
--- the rows' records are the conflict list
-pub rows-list : (b rows : List ℕ) → recordCount policies (tableOf b policies) ≤ 64 → recordCount users (tableOf b users) ≤ 24
-    → recordCount exclusions (tableOf b exclusions) ≤ 64 → Rows b rows → rowsRecords rows 152 ≡ conflicts b
-unfolding rowsRecords conflicts inRow
-rows-list b rows a≤ u≤ x≤ r =
-    rw (join-split (rowAt rows) 128 24, join-split (rowAt rows) 64 64, join-split (rowAt rows) 0 64, join-none (rowAt rows))
-    (append-assoc (joinBelow 64 (λ i. rowAt rows (0 + i))) (joinBelow 64 (λ i. rowAt rows (64 + i))) (joinBelow 24 (λ i. rowAt rows (128 + i)))
-    ∙ ap₂ _++_
-    (block rows 0 64 _ _ _ (omega arith) a≤ a≤ (λ i j l. r .row (0 + i) j (omega arith) ∙ rw (zero-add, lt-ltb i 64)))
-    (ap₂ _++_
-    (block rows 1 64 _ _ _ (omega arith) a≤ a≤
-    (λ i j l. r .row (64 + i) j (omega arith) ∙ rw (le-ltb (64 + i) 64 (omega arith), lt-ltb (64 + i) 128 (omega arith), add-sub-cancel-left)))
-    (block rows 2 24 _ _ _ (omega arith) u≤ x≤
-    (λ i j l. r .row (128 + i) j (omega arith) ∙ rw (le-ltb (128 + i) 64 (omega arith), le-ltb (128 + i) 128 (omega arith), add-sub-cancel-left)))))
+module _ (b one two three : List ℕ) (ok : refusalOf b ≡ 0) (first : Contradictions b one) (second : Overlaps b two) (third : Holders b three) where
+  -- the records of the rows of an accepted base
+  abbrev found : List ℕ
+  found = allRecords one two (recordCount policies (tableOf b policies)) three (recordCount users (tableOf b users))
 
-module _ (b rows : List ℕ) (ok : refusalOf b ≡ 0) (are : Rows b rows) where
-  -- the rows of an accepted base give its list
-  pub found-list : rowsRecords rows 152 ≡ conflicts b
+  -- they are its list
+  pub found-list : found ≡ conflicts b
+  unfolding conflicts
   found-list =
-      rows-list b rows (records-le b ok 5 (lit< tt)) (records-le b ok 1 (lit< tt)) (let n = records-le b ok 6 (lit< tt) in omega arith) are
+      let few : recordCount exclusions (tableOf b exclusions) ≤ 64 = (let n = records-le b ok 6 (lit< tt) in omega arith) in
+      ap₂ _++_ (rows-pairs 1 _ _ _ one (records-le b ok 5 (lit< tt)) first)
+      (ap₂ _++_ (rows-pairs 2 _ _ _ two (records-le b ok 5 (lit< tt)) second) (rows-pairs 3 _ _ _ three few third))
 
   -- and their number
-  pub found-count : (r : ℕ) → 3 * r ≡ length (rowsRecords rows 152) → r ≡ conflictCount b
+  pub found-count : (r : ℕ) → 3 * r ≡ length found → r ≡ conflictCount b
   found-count r e = let l : 3 * r ≡ 3 * conflictCount b = e ∙ ap length found-list ∙ list-length b in omega arith
 
 -- the list written from byte 0 on, and the bytes behind it

@@ -1,8 +1,8 @@
 -- What the code computes on the way: rows of bits, a row for each kind and first.
-use Prim.Native.Nat.{ℕ, _+_, _-_, _/_, _%_, _<_}
+use Prim.Native.Nat.{ℕ, _<_}
 use mathlib.Core.Bool.{Bool, _&&_, not, cond}
 use mathlib.Core.Path.{_≡_}
-use mathlib.Core.List.{List, [], _∷_}
+use mathlib.Core.List.{List, [], _∷_, _++_}
 use lib.ListN.{getD}
 use lib.Bits.{bitAnd}
 use lib.Dec.{ltb, leb, eqb}
@@ -55,37 +55,34 @@ abbrev pub overlapBy : List ℕ → List ℕ → List ℕ → ℕ → ℕ → Bo
 overlapBy apart covered a i j =
     ltb i j && (inSet (getD apart (policyPermission a i) 0) (policyPermission a j) && not (eqb (bitAnd (getD covered i 0) (getD covered j 0)) 0))
 
--- a pair lies below n and m
-abbrev pub inside : ℕ → ℕ → (ℕ → ℕ → Bool) → ℕ → ℕ → Bool
-inside n m p i j = ltb i n && (ltb j m && p i j)
+-- for each i below n, row i has the numbers below m of which p i holds
+pub record Rows (n m : ℕ) (p : ℕ → ℕ → Bool) (rows : List ℕ) : Type 0 where
+  pub row : (i j : ℕ) → i < n → inSet (getD rows i 0) j ≡ (ltb j m && p i j)
 
--- row q of three kinds of rows: kind 1 for policy q, kind 2 for policy q - 64, kind 3 for user q - 128
-abbrev pub threeKinds : (ℕ → ℕ → Bool) → (ℕ → ℕ → Bool) → (ℕ → ℕ → Bool) → ℕ → ℕ → Bool
-threeKinds one two three q j = cond (ltb q 64) (one q j) (cond (ltb q 128) (two (q - 64) j) (three (q - 128) j))
+-- the rows of kind 1 of a base, a row for each policy
+abbrev pub Contradictions : List ℕ → List ℕ → Type 0
+Contradictions b =
+    Rows (recordCount policies (tableOf b policies)) (recordCount policies (tableOf b policies)) (contradict (tableOf b contexts) (tableOf b policies))
 
--- row q by what was worked out before
-pub record IsRow (rows apart covered a us : List ℕ) (R : ℕ) (x : List ℕ) (q row : ℕ) : Type 0 where
-  pub bit : (j : ℕ) → inSet row j
-      ≡ threeKinds (inside (recordCount policies a) (recordCount policies a) (contradictBy rows a))
-      (inside (recordCount policies a) (recordCount policies a) (overlapBy apart covered a))
-      (inside (recordCount users us) (recordCount exclusions x) (holdsBoth R us x)) q j
+-- the rows of kind 2, a row for each policy
+abbrev pub Overlaps : List ℕ → List ℕ → Type 0
+Overlaps b =
+    Rows (recordCount policies (tableOf b policies)) (recordCount policies (tableOf b policies))
+    (overlap (roleCount b) (tableOf b hierarchy) (tableOf b exclusions) (tableOf b policies))
 
--- bit j of row q of the list is the pair with second j
-unfoldable pub inRow : List ℕ → ℕ → ℕ → Bool
-inRow b q j =
-    threeKinds
-    (inside (recordCount policies (tableOf b policies)) (recordCount policies (tableOf b policies)) (contradict (tableOf b contexts) (tableOf b policies)))
-    (inside (recordCount policies (tableOf b policies)) (recordCount policies (tableOf b policies)) (overlap (roleCount b) (tableOf b hierarchy) (tableOf b exclusions) (tableOf b policies)))
-    (inside (recordCount users (tableOf b users)) (recordCount exclusions (tableOf b exclusions)) (holdsBoth (roleCount b) (tableOf b users) (tableOf b exclusions)))
-    q j
-
-pub record Rows (b rows : List ℕ) : Type 0 where
-  pub row : (q j : ℕ) → q < 152 → inSet (getD rows q 0) j ≡ inRow b q j
+-- the rows of kind 3, a row for each user
+abbrev pub Holders : List ℕ → List ℕ → Type 0
+Holders b =
+    Rows (recordCount users (tableOf b users)) (recordCount exclusions (tableOf b exclusions)) (holdsBoth (roleCount b) (tableOf b users) (tableOf b exclusions))
 
 -- the records of one row: kind and first, and each member as second
 unfoldable pub rowRecords : ℕ → ℕ → ℕ → List ℕ
 rowRecords kind first row = joinBelow 64 (λ j. cond (inSet row j) (kind ∷ first ∷ j ∷ []) [])
 
--- the records of the first n rows; there are 152
-unfoldable pub rowsRecords : List ℕ → ℕ → List ℕ
-rowsRecords rows n = joinBelow n (λ q. rowRecords (q / 64 + 1) (q % 64) (getD rows q 0))
+-- the records of the first n rows
+unfoldable pub rowsRecords : ℕ → List ℕ → ℕ → List ℕ
+rowsRecords kind rows n = joinBelow n (λ i. rowRecords kind i (getD rows i 0))
+
+-- the records of all kinds: n rows of kinds 1 and 2 each, m of kind 3
+abbrev pub allRecords : List ℕ → List ℕ → ℕ → List ℕ → ℕ → List ℕ
+allRecords one two n three m = rowsRecords 1 one n ++ (rowsRecords 2 two n ++ rowsRecords 3 three m)

@@ -1,16 +1,15 @@
 // What policies cover, and which permissions exclude each other.
+use reader::bytes;
 ghost use mathlib.Core.Path.{_≡_};
-ghost use mathlib.Core.Bool.{false, _&&_};
-ghost use Prim.Native.Nat.{ℕ, _+_, _*_, _/_, _≤_, _<_};
+ghost use mathlib.Core.Bool.{false, _&&_, _||_};
+ghost use Prim.Native.Nat.{ℕ, _/_, _≤_, _<_};
 ghost use mathlib.Core.List.{List};
 ghost use lib.ListN.{length, getD};
 ghost use lib.Dec.{eqb};
 ghost use Rattle.folds.specs.Sets.{inSet};
-ghost use Rattle.reader.specs.Fields.{exclusionFirst, exclusionSecond};
-ghost use Rattle.reader.specs.Tables.{policies};
-ghost use Rattle.reader.specs.Rules.{hierarchyBad, policiesBad};
+ghost use Rattle.reader.specs.Rules.{hierarchyBad, policiesBad, exclusionsBad};
 ghost use Rattle.weights.specs.Setting.{Juniors};
-ghost use Rattle.conflicts.specs.Conflicts.{covers, excludes, excluded};
+ghost use Rattle.conflicts.specs.Conflicts.{covers, excludes};
 ghost use Rattle.conflicts.specs.Rows.{Covers, Excluded};
 
 // The set of the roles that have j among their juniors.
@@ -52,60 +51,35 @@ pub fn cover_sets(h: &[u8], a: &[u8]) -> [u8; 64]
     sets
 }
 
-fn pair_is(x: &[u8], e: usize, p: u8, q: u8) -> bool
-    requires { ⌜ 3 * e + 3 ≤ length (now x) ⌝ }
-    ensures { λ r. ⌜ r ≡ (eqb (exclusionFirst (now (x .entry)) e) p && eqb (exclusionSecond (now (x .entry)) e) q) ⌝ }
+// Adds q to the set of p.
+fn add_pair(sets: &mut [u32; 16], p: u8, q: u8)
+    requires { ⌜ (p < 16) × (q < 16) × (length (now sets) ≡ 16) ⌝ }
+    ensures { λ _. ⌜ (length (now (sets .exit)) ≡ 16) × ((s t : ℕ) → inSet (getD (now (sets .exit)) s 0) t ≡ (inSet (getD (now (sets .entry)) s 0) t || (eqb p s && eqb q t))) ⌝ }
 {
-    if x[3 * e + 1] != p {
-        return false;
-    }
-    x[3 * e + 2] == q
+    let at = bytes::wide(p);
+    sets[at] = sets[at] | weights::sets::bit(q);
 }
 
-// Exclusion record e is of kind 1 and has both permissions, in either order.
-fn is_exclusion(x: &[u8], p: u8, q: u8, e: usize) -> bool
-    requires { ⌜ 3 * e + 3 ≤ length (now x) ⌝ }
-    ensures { λ r. ⌜ r ≡ excludes (now (x .entry)) p q e ⌝ }
+// Adds to the sets what exclusion record e says, if it is of kind 1.
+fn add_exclusion(sets: &mut [u32; 16], x: &[u8], e: usize)
+    requires { ⌜ (e < length (now x) / 3) × (exclusionsBad 8 16 (now x) ≡ false) × (length (now sets) ≡ 16) ⌝ }
+    ensures { λ _. ⌜ (length (now (sets .exit)) ≡ 16) × ((s t : ℕ) → inSet (getD (now (sets .exit)) s 0) t ≡ (inSet (getD (now (sets .entry)) s 0) t || excludes (now (x .entry)) s t e)) ⌝ }
 {
     if x[3 * e] != 1 {
-        return false;
+        return;
     }
-    if pair_is(x, e, p, q) {
-        return true;
-    }
-    pair_is(x, e, q, p)
-}
-
-fn are_excluded(x: &[u8], p: u8, q: u8) -> bool
-    ensures { λ r. ⌜ r ≡ excluded (now (x .entry)) p q ⌝ }
-{
-    for e in 0..x.len() / 3 {
-        if is_exclusion(x, p, q, e) {
-            return true;
-        }
-    }
-    false
-}
-
-fn excluded_row(x: &[u8], p: u8) -> u32
-    ensures { λ r. ⌜ ((q : ℕ) → q < 16 → inSet r q ≡ excluded (now (x .entry)) p q) ⌝ }
-{
-    let mut row: u32 = 0;
-    for q in 0..16u8 {
-        if are_excluded(x, p, q) {
-            row = row | weights::sets::bit(q);
-        }
-    }
-    row
+    add_pair(sets, x[3 * e + 1], x[3 * e + 2]);
+    add_pair(sets, x[3 * e + 2], x[3 * e + 1]);
 }
 
 // The permissions that each permission excludes, a set a permission.
 pub fn excluded_sets(x: &[u8]) -> [u32; 16]
+    requires { ⌜ exclusionsBad 8 16 (now x) ≡ false ⌝ }
     ensures { λ r. ⌜ Excluded (now (x .entry)) r ⌝ }
 {
     let mut sets = [0u32; 16];
-    for p in 0..16usize {
-        sets[p] = excluded_row(x, p as u8);
+    for e in 0..x.len() / 3 {
+        add_exclusion(&mut sets, x, e);
     }
     sets
 }

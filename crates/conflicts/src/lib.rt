@@ -21,11 +21,15 @@ pub fn list(base: &[u8], out: &mut [u8]) -> Answer
             count: 0,
         };
     }
-    let found = rows::all_rows(base);
-    let count = writing::row_count(found);
+    let one = rows::contradictions(base);
+    let two = rows::overlaps(base);
+    let three = rows::holders(base);
+    let n = reader::trailer::part(base, reader::POLICIES).len() / 8;
+    let m = reader::trailer::part(base, reader::USERS).len() / 4;
+    let count = writing::count_all(&one, &two, n, &three, m);
     if out.len() < 3 * (count as usize) {
         return Answer { refusal: 18, count };
     }
-    writing::write_rows(out, found);
+    writing::write_all(out, &one, &two, n, &three, m);
     Answer { refusal: 0, count }
 }

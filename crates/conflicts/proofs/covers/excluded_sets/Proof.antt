@@ -1,60 +1,44 @@
-use Rattle.folds.proofs.Lists.{stored}
-use Prim.Native.Nat.{ℕ, _≤_, _<_, _-_}
-use mathlib.Core.Path.{_≡_, refl}
-use lib.ListN.{length, getD, length-set}
-use Rattle.folds.specs.Sets.{inSet}
-use Rattle.conflicts.specs.Conflicts.{covers, excluded}
-use native.Mathlib.Nat.{not-suc-le-zero}
+use Prim.Native.Nat.{ℕ, _≤_, _-_, _/_}
+use mathlib.Core.Path.{_≡_, refl, sym, _∙_}
 use native.Mathlib.Omega.{arith}
 use borrow.Author.Needs.{needs}
+use lib.ListN.{length, getD}
+use Rattle.folds.specs.Below.{anyBelow}
+use Rattle.folds.specs.Sets.{inSet}
+use Rattle.folds.proofs.Tests.{any-none, any-next}
+use Rattle.conflicts.specs.Conflicts.{excludes, excluded}
+use Rattle.conflicts.proofs.Bits.{empty-sets}
 use Rattle.conflicts.proofs.covers.excluded_sets.Statement.{statement}
 use Rattle.conflicts.proofs.covers.excluded_sets.Tie as tie
 
 abbrev Inv-loop : tie.InvT-loop
-Inv-loop x sets₀ p₀ sets p = (p ≤ 16) × (length sets ≡ 16) × ((k : ℕ) → k < p → (q : ℕ) → q < 16 → inSet (getD sets k 0) q ≡ excluded x k q)
+Inv-loop x sets₀ e₀ e-end sets e = (e ≤ length x / 3) × (length sets ≡ 16) × ((s t : ℕ) → inSet (getD sets s 0) t ≡ anyBelow e (excludes x s t))
 
 abbrev μ-loop : tie.MeasureT-loop
-μ-loop x sets₀ p₀ sets p = 16 - p
+μ-loop x sets₀ e₀ e-end sets e = length x / 3 - e
 
 loop-holds : tie.Need-loop-holds Inv-loop μ-loop
-loop-holds c = (search needs, refl, λ k l. absurd (not-suc-le-zero l))
+loop-holds c = (search needs, refl, λ s t. empty-sets 16 s t ∙ sym (any-none (excludes (c .before .args .x .now) s t)))
 
-cast-excluded-row : tie.Need-cast-excluded-row Inv-loop μ-loop
-cast-excluded-row c = search needs
+add-exclusion-requires : tie.Need-add-exclusion-requires Inv-loop μ-loop
+add-exclusion-requires c κs = (c .before .loop-test .taken, c .before .before .before .before .pre, c .before .before .loop .inv .1)
 
-excluded-row-requires : tie.Need-excluded-row-requires Inv-loop μ-loop
-excluded-row-requires c κs = search needs
-
-mul-sets : tie.Need-mul-sets Inv-loop μ-loop
-mul-sets c = search needs
-
-array-write-sets : tie.Need-array-write-sets Inv-loop μ-loop
-array-write-sets c = search needs
-
-add-p : tie.Need-add-p Inv-loop μ-loop
-add-p c = search needs
+add-e : tie.Need-add-e Inv-loop μ-loop
+add-e c = search needs
 
 loop-less : tie.Need-loop-less Inv-loop μ-loop
 loop-less c = search needs
 
 loop-again : tie.Need-loop-again Inv-loop μ-loop
-loop-again c = let l = c .before .before .loop in (search needs, rw length-set (l .inv .1), stored (l .sets) (l .p) _ (λ k x. (q : ℕ) → q < 16 → inSet x q ≡ excluded (c .before .before .before .before .args .x .now) k q) (let n = l .inv .1 in omega arith) (l .inv .2) (c .excluded-row .ensures))
+loop-again c = (search needs, c .add-exclusion .ensures .0, λ s t. c .add-exclusion .ensures .1 s t ∙ rw (c .before .before .before .loop .inv .2 s t, any-next))
 
 returns : tie.Need-returns Inv-loop μ-loop
-returns c = let l = c .before .loop in let t : 16 ≤ l .p = omega arith in record { permission = λ p q m n. l .inv .2 p (omega arith) q n }
+unfolding excluded
+returns c =
+    let e : c .before .loop .e ≡ length (c .before .before .before .args .x .now) / 3 = omega arith in
+    record { permission = λ p q m n. rw (← e) (c .before .loop .inv .2 p q) }
 
 pub excluded-sets-spec : {M : Type 1} → statement M
 excluded-sets-spec =
     tie.close
-    (tie.spec
-    Inv-loop
-    μ-loop
-    loop-holds
-    cast-excluded-row
-    excluded-row-requires
-    mul-sets
-    array-write-sets
-    add-p
-    loop-less
-    loop-again
-    returns)
+    (tie.spec Inv-loop μ-loop loop-holds add-exclusion-requires add-e loop-less loop-again returns)
