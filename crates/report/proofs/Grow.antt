@@ -1,17 +1,17 @@
 -- One entry more: what a level's table becomes.
-use Prim.Native.Nat.{ℕ, _+_, _<_}
+use Prim.Native.Nat.{ℕ, _+_, _≤_, _<_}
 use mathlib.Core.Path.{_≡_, refl, _∙_}
 use mathlib.Core.Logic.{_⊎_, inl, inr, ⊎-elim}
 use mathlib.Core.List.{List}
 use native.Mathlib.Omega.{arith}
 use native.Mathlib.Nat.{min-eq-left, min-eq-right, min-le-left, min-le-right, le-refl, le-trans, le-of-lt, eq-or-lt-of-le, le-of-suc-le-suc}
 use native.Mathlib.Numerals.{add-one}
-use borrow.Author.Tests.{eqb-true, eqb-false, leb-true, leb-false}
-use lib.Dec.{eqb, leb}
+use borrow.Author.Tests.{eqb-true, eqb-false, leb-true, leb-false, ltb-true, ltb-false}
+use lib.Dec.{eqb, leb, ltb}
 use lib.ListN.{length, getD}
 use Rattle.folds.specs.Sets.{inSet}
 use Rattle.folds.proofs.Bools.{met-or-not, clash}
-use Rattle.report.specs.Levels.{Next, Relaxed, Entered, target, Brought, GrownIn, Grown}
+use Rattle.report.specs.Levels.{Next, NextEnd, Relaxed, Entered, target, Brought, GrownIn, Grown}
 
 -- there is one first user
 pub next-same : (sets : List ℕ) (from r u v : ℕ) → Next sets from r u → Next sets from r v → u < length sets → v < length sets → u ≡ v
@@ -45,6 +45,24 @@ module _ (sets w : List ℕ) (set sum end r : ℕ) (was : List ℕ) where
           (λ t. inr (record { role = r; user = u; entered = e; there = there; is = x .here ∙ min-eq-left (leb-true _ _ t) }))
           (λ t. inl (x .here ∙ min-eq-right (le-of-lt (leb-false _ _ t))))
           (met-or-not (leb (u + 1) (getD was at 0)))
+
+-- a table by the next end: an entry more, or none
+pub grown-by : (sets w : List ℕ) (set sum end r at e : ℕ) (was now : List ℕ) → r < 8 → 0 < getD w r 0 → at ≡ target w set sum r → getD was at 0 ≤ 255 → NextEnd sets end r e →
+    Relaxed was at e now → GrownIn sets w set sum end r was now
+grown-by sets w set sum end r at e was now role heavy there byte next x = ⊎-elim (λ t. some (ltb-true _ _ t)) (λ t. none (ltb-false _ _ t)) (met-or-not (ltb e 255))
+  where
+    some : e < 255 → GrownIn sets w set sum end r was now
+    some l =
+        let (u, user, is, first) = next .some l in
+        grown-in sets w set sum end r was u at now there (record { role = role; heavy = heavy; user = user; next = first }) (rw is at x)
+
+    same : 255 ≤ e → (i : ℕ) → getD now i 0 ≡ getD was i 0
+    same l i = ⊎-elim
+        (λ t. let q : i ≡ at = eqb-true _ _ t in rw q (x .here ∙ min-eq-right (le-trans byte l)))
+        (λ t. x .other i (eqb-false i at t)) (met-or-not (eqb i at))
+
+    none : 255 ≤ e → GrownIn sets w set sum end r was now
+    none l = record { size = x .size; smaller = λ i. rw (same l i) (le-refl _); brought = λ i. inl (same l i); ends = λ u f. absurd (next .none l u (f .user) (f .next)) }
 
 -- the roles so far, and one more
 pub grown-more : (sets w : List ℕ) (set sum end n : ℕ) (was mid now : List ℕ) → Grown sets w set sum end n was mid →

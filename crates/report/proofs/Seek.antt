@@ -6,7 +6,7 @@ use mathlib.Core.List.{List, [], _∷_, _++_, append-nil, append-assoc}
 use native.Mathlib.Omega.{arith}
 use native.Mathlib.Nat.{le-refl, le-of-lt, lt-irrefl, lt-of-le-of-lt, add-zero, not-suc-le-zero}
 use lib.Bits.{bitOr, or-zero-r}
-use lib.ListN.{length, getD, set, replicate, length-replicate, replicate-append-replicate, length-append}
+use lib.ListN.{length, getD, set, replicate, length-replicate, replicate-append-replicate, length-append, length-set}
 use lib.Seq.{set-at, append-snoc}
 use Rattle.folds.proofs.Sets.{or-assoc}
 use Rattle.decision.specs.Conditions.{permissionHolds}
@@ -39,7 +39,7 @@ module _ (sets w k : List ℕ) (p n : ℕ) (t : List ℕ) where
 
   -- no cell of this level meets the condition by itself
   pub unmet : Meeting k p n t 61696 → Unmet sets w k p n t
-  unmet m c l = holds-here c ∙ m .none (rw (add-zero n) at (l .some)) c (l .small) (l .reached)
+  unmet m c l = holds-here c ∙ m .none refl (rw (add-zero n) at (l .some)) c (l .small) (l .reached)
 
   -- a cell that meets the condition needs no entry more
   pub found-here : (cell : ℕ) → cell < 61696 → n ≤ 6 → Meeting k p n t cell → FoundFrom sets w k p n t cell (partFrom n [])
@@ -147,6 +147,10 @@ module _ (sets w : List ℕ) (n : ℕ) (t next : List ℕ) (later : ℕ) (a : Ad
       let h : place (later % 256) (later / 256) ≡ later = omega arith in
       let above = end-above in
       record { user = end - 1; role = role; leads = rw (h, e) at (found c r (rw (h, e) l)); ends = omega arith; bytes = rw (p, q) }
+
+-- and the part stays as long
+pub stepped-length : (sets w : List ℕ) (n : ℕ) (t next : List ℕ) (later : ℕ) (part : List ℕ) (cell : ℕ) (after : List ℕ) → Stepped sets w n t next later part cell after → length after ≡ length part
+stepped-length sets w n t next later part cell after s = ap length (s .bytes) ∙ length-set (set part (2 * n + 1) (s .user)) (2 * n + 2) (s .role) ∙ length-set part (2 * n + 1) (s .user)
 
 -- a part has 13 bytes
 pub part-length : (n : ℕ) (g : List Entry) → n + length g ≤ 6 → length (partFrom n g) ≡ 13

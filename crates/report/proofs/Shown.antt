@@ -1,5 +1,5 @@
 -- What the search finds from the empty group is a smallest granted group.
-use Prim.Native.Nat.{ℕ, zero, suc, _+_, _-_, _*_, _/_, _%_, _<_, _≤_}
+use Prim.Native.Nat.{ℕ, zero, suc, _+_, _-_, _*_, _/_, _%_, _^_, _<_, _≤_}
 use mathlib.Core.Bool.{Bool, true, false, _&&_}
 use mathlib.Core.Path.{_≡_, refl, sym, ap, _∙_}
 use mathlib.Core.Logic.{_↔_, _⊎_, ⊎-elim}
@@ -11,6 +11,9 @@ use lib.Bits.{or-zero-l}
 use lib.Dec.{lit<}
 use lib.ListN.{length, getD, set, replicate, length-set, length-replicate, getD-replicate}
 use lib.Seq.{getD-set-other}
+use lib.Pow.{pow-pos}
+use Rattle.folds.specs.Below.{anyBelow}
+use Rattle.folds.specs.Sets.{inSet}
 use Rattle.folds.proofs.Bools.{met-or-not, clash}
 use Rattle.decision.specs.Groups.{entryCount, entryUser}
 use Rattle.decision.specs.Conditions.{permissionHolds}
@@ -18,10 +21,12 @@ use Rattle.decision.specs.Granting.{Granted}
 use Rattle.report.specs.Smallest.{smallest}
 use Rattle.report.specs.Rising.{Entry, Rises, sumOf, rolesOf, bytesOf}
 use Rattle.report.specs.Levels.{Level}
+use Rattle.report.specs.Marks.{Marked}
 use Rattle.report.specs.Search.{holdsWith, LeadsOn, partFrom, FoundFrom, Sought}
 use Rattle.report.specs.Report.{partOf}
 use Rattle.report.proofs.Bridge.{Tables}
 use Rattle.report.proofs.Turned.{rises-rising, rises-granted, granted-rises, bytes-length}
+use Rattle.report.proofs.Seek.{sought-none}
 use Rattle.report.proofs.Least.{OfBytes, smallest-is, smallest-zero}
 
 -- the table of the empty group: no entry placed, any user may be the first
@@ -34,11 +39,29 @@ empty-reached zero l h = refl
 empty-reached (suc c) l h =
     absurd (lt-irrefl 255 (rw (getD-set-other {A = ℕ} (replicate 61696 255) 0 (suc c) 0 0 (λ e. absurd (omega arith)), getD-replicate {A = ℕ} 61696 (suc c) 255 0 l) at h))
 
-pub empty-level : (sets : List ℕ) → Level sets 0 emptyTable
-empty-level sets = record {
+pub empty-level : Level 0 emptyTable
+empty-level = record {
   sums = record { size = length-set {A = ℕ} (replicate 61696 255) 0 0 ∙ length-replicate {A = ℕ} 61696 255; sum = λ c l h. rw (empty-reached c l h) (omega arith) };
   within = λ c l h. rw (empty-reached c l h) (omega arith);
 }
+
+-- its first cell is marked
+pub empty-marked : Marked emptyTable (set (replicate 964 0) 0 1)
+unfolding inSet
+empty-marked = record {
+  size = length-set {A = ℕ} (replicate 61696 255) 0 0 ∙ length-replicate {A = ℕ} 61696 255;
+  words = length-set {A = ℕ} (replicate 964 0) 0 1 ∙ length-replicate {A = ℕ} 964 0;
+  mark = λ c l h. rw (empty-reached c l h);
+}
+
+-- and its set is empty
+pub empty-sets : (d c : ℕ) → c < 61696 → getD emptyTable c 0 < 255 → c % 256 < 2 ^ d
+empty-sets d c l h = rw (empty-reached c l h) (pow-pos d)
+
+-- where a permission has no clause, nothing is found
+pub sought-bare : (sets w : List ℕ) (p : ℕ) → Sought sets w [] p 0 emptyTable 61696 (0 ∷ replicate 12 255)
+unfolding permissionHolds anyBelow
+sought-bare sets w p = sought-none sets w [] p 0 emptyTable (0 ∷ replicate 12 255) (λ c g l. refl) refl
 
 -- the 13 bytes of a smallest group, by rising user
 pub record Shown (granted : List ℕ → Bool) (part : List ℕ) : Type 0 where

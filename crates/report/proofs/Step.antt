@@ -67,6 +67,10 @@ module _ (sets : List ℕ) where
         first = λ k a b. rw (le-leb from k a) at (first-least (asked from r) (length sets) k b);
       }
 
+-- higher sums are allowed too
+pub level-wider : (top most : ℕ) (t : List ℕ) → top ≤ most → Level top t → Level most t
+level-wider top most t l v = record { sums = record { size = v .sums .size; sum = λ c m h. le-trans (v .sums .sum c m h) l }; within = v .within }
+
 module _ (sets w t : List ℕ) where
   -- at first nothing is reached
   pub advanced-start : Advanced sets w t 0 (replicate 61696 255)
@@ -76,12 +80,12 @@ module _ (sets w t : List ℕ) where
     ends = λ c r u l h e. absurd (omega arith);
   }
 
-  -- a cell that is not reached leads nowhere
-  pub advanced-skip : (next : List ℕ) (cell : ℕ) → getD t cell 0 ≡ 255 → Advanced sets w t cell next → Advanced sets w t (cell + 1) next
-  advanced-skip next cell z a = record {
+  -- cells that are not reached lead nowhere
+  pub advanced-past : (next : List ℕ) (upto cell : ℕ) → ((c : ℕ) → upto ≤ c → c < cell → getD t c 0 < 255 → ⊥) → Advanced sets w t upto next → Advanced sets w t cell next
+  advanced-past next upto cell none a = record {
     size = a .size;
     came = a .came;
-    ends = λ c r u l h e. ⊎-elim (λ q. let y : getD t c 0 ≡ 255 = ap (λ (k : ℕ). getD t k 0) q ∙ z in absurd (omega arith)) (λ m. a .ends c r u m h e) (eq-or-lt-of-le (le-of-suc-le-suc (rw add-one at l)));
+    ends = λ c r u l h e. ⊎-elim (λ past. absurd (none c (leb-true upto c past) l h)) (λ m. a .ends c r u (leb-false upto c m) h e) (met-or-not (leb upto c));
   }
 
   -- a cell that is reached leads to one entry more in each role
@@ -108,8 +112,8 @@ module _ (sets w t : List ℕ) where
   }
 
   -- the table of the next level
-  pub advanced-level : (heavy : ℕ) → ((r : ℕ) → r < 8 → getD w r 0 ≤ heavy) → (top upto : ℕ) (next : List ℕ) → Sums top t → Advanced sets w t upto next → Level sets (top + heavy) next
-  advanced-level heavy light top upto next sums a = record {
+  pub advanced-level : length sets ≤ 24 → (heavy : ℕ) → ((r : ℕ) → r < 8 → getD w r 0 ≤ heavy) → (top upto : ℕ) (next : List ℕ) → Sums top t → Advanced sets w t upto next → Level (top + heavy) next
+  advanced-level few heavy light top upto next sums a = record {
     sums = record {
       size = a .size;
       sum = λ cell l h.
@@ -124,3 +128,11 @@ module _ (sets w t : List ℕ) where
         let u = leads .entered .user in
         rw (leads .ends) (omega arith);
   }
+
+  -- the roles that have weight are below d, and so are those of the next level's sets
+  pub advanced-sets : (d : ℕ) → ((r : ℕ) → r < 8 → 0 < getD w r 0 → r < d) → ((c : ℕ) → c < 61696 → getD t c 0 < 255 → c % 256 < 2 ^ d) → (upto : ℕ) (next : List ℕ) →
+      Advanced sets w t upto next → (cell : ℕ) → cell < 61696 → getD next cell 0 < 255 → cell % 256 < 2 ^ d
+  advanced-sets d roles sets upto next a cell l h =
+      let (c, r, leads) = a .came cell l h in
+      let z : cell % 256 ≡ bitOr (c % 256) (2 ^ r) = ap (λ (k : ℕ). k % 256) (leads .there) ∙ place-set (bitOr (c % 256) (2 ^ r)) _ (joined-lt (c % 256) r (omega arith) (leads .entered .role)) in
+      rw z (or-lt d (c % 256) (2 ^ r) (sets c (leads .small) (leads .reached)) (pow-lt (roles r (leads .entered .role) (leads .entered .heavy))))

@@ -20,6 +20,17 @@ pub record Next (sets : List ℕ) (from r u : ℕ) : Type 0 where
   pub found : u < length sets → inSet (getD sets u 0) r ≡ true
   pub first : (v : ℕ) → from ≤ v → v < u → inSet (getD sets v 0) r ≡ false
 
+-- an end: one past the first user from `from` on who may act in role r, or 255 where there is none
+pub record NextEnd (sets : List ℕ) (from r end : ℕ) : Type 0 where
+  pub some : end < 255 → (u : ℕ) × (u < length sets) × (end ≡ u + 1) × Next sets from r u
+  pub none : 255 ≤ end → (u : ℕ) → u < length sets → Next sets from r u → ⊥
+
+-- these ends for 24 users, at 8 times a place and a role
+pub record NextEnds (sets ends : List ℕ) : Type 0 where
+  pub users : length sets ≡ 24
+  pub size : length ends ≡ 200
+  pub end : (from r : ℕ) → from ≤ 24 → r < 8 → NextEnd sets from r (getD ends (8 * from + r) 0)
+
 -- the table with the smaller end at a place
 pub record Relaxed (t : List ℕ) (at end : ℕ) (next : List ℕ) : Type 0 where
   pub size : length next ≡ length t
@@ -73,10 +84,10 @@ pub record Sums (top : ℕ) (t : List ℕ) : Type 0 where
   pub size : length t ≡ 61696
   pub sum : (c : ℕ) → c < 61696 → getD t c 0 < 255 → c / 256 ≤ top
 
--- and its ends are those of users that are there
-pub record Level (sets : List ℕ) (top : ℕ) (t : List ℕ) : Type 0 where
+-- and its ends are those of at most 24 users
+pub record Level (top : ℕ) (t : List ℕ) : Type 0 where
   pub sums : Sums top t
-  pub within : (c : ℕ) → c < 61696 → getD t c 0 < 255 → getD t c 0 ≤ length sets
+  pub within : (c : ℕ) → c < 61696 → getD t c 0 < 255 → getD t c 0 ≤ 24
 
 -- the table next has what cells of the table t lead to: each reached cell comes from one, and an entry from a cell before `upto` ends no earlier
 pub record Advanced (sets w t : List ℕ) (upto : ℕ) (next : List ℕ) : Type 0 where

@@ -1,7 +1,9 @@
 pub mod Smallest
 pub mod Rising
 pub mod Levels
+pub mod Marks
 pub mod Clauses
+pub mod Masks
 pub mod Back
 pub mod Search
 pub mod Report

@@ -1,26 +1,35 @@
 -- The search: from a table of states, the fewest entries more that meet the permission's condition. Working notions.
-use Prim.Native.Nat.{ℕ, _+_, _-_, _*_, _/_, _%_, _<_, _≤_}
+use Prim.Native.Nat.{ℕ, _+_, _-_, _*_, _/_, _%_, _^_, _<_, _≤_}
 use mathlib.Core.Bool.{Bool, true, false}
 use mathlib.Core.Path.{_≡_}
 use mathlib.Core.List.{List, [], _∷_, _++_}
 use lib.ListN.{length, getD, set, replicate}
 use lib.Bits.{bitOr}
-use Rattle.reader.specs.Tables.{clauses, recordCount}
-use Rattle.reader.specs.Fields.{clauseLength}
 use Rattle.decision.specs.Conditions.{permissionHolds}
-use Rattle.report.specs.Levels.{LeadsTo, Level}
+use Rattle.report.specs.Levels.{NextEnds, LeadsTo, Level}
+use Rattle.report.specs.Marks.{Marked}
+use Rattle.report.specs.Masks.{Masks}
 use Rattle.report.specs.Rising.{Entry, Rises, sumOf, rolesOf, bytesOf}
 
--- what the search starts from: at most 24 users, no role heavier than `heavy`, clauses of at most 4 conditions, and a table of n entries
--- placed with sums up to `top`
-pub record Start (sets w : List ℕ) (heavy : ℕ) (k : List ℕ) (n top : ℕ) (t : List ℕ) : Type 0 where
-  pub users : length sets ≤ 24
+-- what the search starts from: users and their next ends, no role heavier than `heavy`, a permission's masks, and a table of n entries
+-- placed with sums up to `top` and its marks
+pub record Start (sets ends w : List ℕ) (heavy : ℕ) (masks : List ℕ) (n top : ℕ) (t reached : List ℕ) : Type 0 where
+  pub next : NextEnds sets ends
   pub light : (r : ℕ) → r < 8 → getD w r 0 ≤ heavy
   pub heavy-le : heavy ≤ 40
-  pub clause : (i : ℕ) → i < recordCount clauses k → clauseLength k i ≤ 4
+  pub masks-size : length masks ≡ 504
   pub placed : n ≤ 6
-  pub top-le : top ≤ 40 * n
-  pub level : Level sets top t
+  pub top-le : top ≤ n * heavy
+  pub level : Level top t
+  pub marks : Marked t reached
+
+-- the masks are those of permission p, for all sums of six entries and all sets of roles below d; the roles that have weight, and those in
+-- the sets of the table t, are below d
+pub record Asked (w k : List ℕ) (p heavy : ℕ) (masks t : List ℕ) : Type 0 where
+  pub d : ℕ
+  pub roles : (r : ℕ) → r < 8 → 0 < getD w r 0 → r < d
+  pub sets : (c : ℕ) → c < 61696 → getD t c 0 < 255 → c % 256 < 2 ^ d
+  pub are : Masks k p (6 * heavy) (2 ^ d) masks
 
 -- the condition holds of the n entries placed that a cell stands for, and the entries g behind them
 abbrev pub holdsWith : List ℕ → List ℕ → ℕ → ℕ → ℕ → List Entry → Bool

@@ -1,31 +1,60 @@
 // From a level's cell that meets the condition back to its entries.
 use crate::levels;
+use crate::marks;
 use reader::bytes;
 ghost use mathlib.Core.Path.{_≡_};
-ghost use Prim.Native.Nat.{ℕ, _≤_, _<_};
+ghost use Prim.Native.Nat.{ℕ, _+_, _*_, _≤_, _<_};
+ghost use mathlib.Core.List.{List};
 ghost use lib.ListN.{length};
-ghost use Rattle.reader.specs.Tables.{clauses, recordCount};
-ghost use Rattle.reader.specs.Fields.{clauseLength};
 ghost use Rattle.report.specs.Levels.{place, LeadsTo, Sums};
-ghost use Rattle.report.specs.Back.{Meeting, EndsAt, BackIn};
+ghost use Rattle.report.specs.Marks.{Marked, WordFor};
+ghost use Rattle.report.specs.Back.{AtReached, Tells, MetIn, Meeting, EndsAt, BackIn};
 
-// Inner: the first reached cell whose set and sum meet the permission's condition with n entries, or 61,696.
-pub fn meeting_cell(k: &[u8], permission: u8, n: u32, top: usize, t: &[u8]) -> usize
-    requires { ⌜ (top ≤ 240) × Sums top (now t) × ((i : ℕ) → i < recordCount clauses (now k) → clauseLength (now k) i ≤ 4) ⌝ }
-    ensures { λ r. ⌜ Meeting (now (k .entry)) permission n (now (t .entry)) r ⌝ }
+// A reached cell that word q marks and whose set meets a clause of the row, or 61,696.
+fn meeting_in_word(masks: &[u64], row: u64, t: &[u8], q: usize, word: u64) -> usize
+    requires { ⌜ (length (now masks) ≡ 504) × (length (now t) ≡ 61696) × (q < 964) × WordFor (now t) q word ⌝ }
+    ensures { λ r. ⌜ MetIn (now (masks .entry)) row (now (t .entry)) (64 * q) (64 * q + 64) r ⌝ }
+{
+    let mut rest = word;
+    while rest != 0 {
+        let cell = marks::lowest_cell(q, rest);
+        if row & masks[241 + cell % 256] != 0 {
+            if t[cell] != 255 {
+                return cell;
+            }
+        }
+        rest = marks::without_lowest(rest);
+    }
+    61696
+}
+
+// The same for a sum, which has four words.
+fn meeting_in_row(masks: &[u64], row: u64, t: &[u8], sum: usize, reached: &[u64]) -> usize
+    requires { ⌜ (length (now masks) ≡ 504) × (sum ≤ 240) × Marked (now t) (now reached) ⌝ }
+    ensures { λ r. ⌜ MetIn (now (masks .entry)) row (now (t .entry)) (256 * sum) (256 * sum + 256) r ⌝ }
+{
+    for i in 0..4usize {
+        let cell = meeting_in_word(masks, row, t, 4 * sum + i, reached[4 * sum + i]);
+        if cell < 61696 {
+            return cell;
+        }
+    }
+    61696
+}
+
+// Inner: a reached cell that by its masks meets the condition with n entries, or 61,696; sums are at most `top`.
+pub fn meeting_cell(masks: &[u64], n: u8, top: usize, t: &[u8], reached: &[u64]) -> usize
+    requires { ⌜ (length (now masks) ≡ 504) × (n ≤ 6) × (top ≤ 240) × Sums top (now t) × Marked (now t) (now reached) ⌝ }
+    ensures { λ r. ⌜ AtReached (now (t .entry)) r × ((k : List ℕ) (p : ℕ) → Tells k p n (now (masks .entry)) (now (t .entry)) → Meeting k p n (now (t .entry)) r) ⌝ }
 {
     if n == 0 {
         return 61696;
     }
-    for cell in 0..256 * (top + 1) {
-        if t[cell] != 255 {
-            if decision::conditions::permission_holds(
-                k,
-                permission,
-                n,
-                (cell / 256) as u32,
-                (cell % 256) as u8,
-            ) {
+    for sum in 0..top + 1 {
+        let row = masks[497 + bytes::wide(n)] & masks[sum];
+        if row != 0 {
+            let cell = meeting_in_row(masks, row, t, sum, reached);
+            if cell < 61696 {
                 return cell;
             }
         }

@@ -8,6 +8,8 @@ ghost use Rattle.report.specs.Demand.{Demanded};
 mod back;
 mod clauses;
 mod levels;
+mod marks;
+mod masks;
 mod parts;
 pub mod search;
 

@@ -1,11 +1,13 @@
 // The 13 bytes of each permission.
 use crate::clauses;
+use crate::levels;
+use crate::masks;
 use crate::search;
 use reader::bytes;
 use weights::Fixed;
 ghost use mathlib.Core.Path.{_≡_};
 ghost use mathlib.Core.Bool.{false, cond};
-ghost use Prim.Native.Nat.{ℕ, _*_, _≤_, _<_};
+ghost use Prim.Native.Nat.{ℕ, _*_, _^_, _≤_, _<_};
 ghost use lib.ListN.{length, getD};
 ghost use lib.Dec.{ltb};
 ghost use Rattle.reader.specs.Tables.{permissionCount};
@@ -13,14 +15,15 @@ ghost use Rattle.reader.specs.Rules.{refusalOf};
 ghost use Rattle.weights.specs.Contexts.{outOfRange};
 ghost use Rattle.weights.specs.Setting.{FixedBy};
 ghost use Rattle.report.specs.Report.{releasable};
-ghost use Rattle.report.specs.Parts.{ActingSets, Heaviest, PartFor, Filled};
+ghost use Rattle.report.specs.Parts.{ActingSets, Heaviest, RolesEnd, PartFor, Filled};
+ghost use Rattle.report.specs.Levels.{NextEnds};
 
 // Inner: for each user of an accepted base the set of the roles that the user may act in.
 pub fn acting_sets(base: &[u8]) -> [u8; 24]
     requires { ⌜ refusalOf (now base) ≡ 0 ⌝ }
     ensures { λ sets. ⌜ ActingSets (now (base .entry)) sets ⌝ }
 {
-    let users = reader::table(base, reader::USERS);
+    let users = reader::trailer::part(base, reader::USERS);
     let roles = reader::trailer::role_count(base);
     let mut sets = [0u8; 24];
     for u in 0..24usize {
@@ -44,19 +47,47 @@ fn heaviest(w: [u8; 8]) -> usize
     m
 }
 
+// One past the last role that has weight.
+fn roles_end(w: [u8; 8]) -> u8
+    ensures { λ d. ⌜ RolesEnd w d ⌝ }
+{
+    let mut end: u8 = 0;
+    for r in 0..8u8 {
+        if w[r as usize] != 0 {
+            end = r + 1;
+        }
+    }
+    end
+}
+
+// The number of sets of the roles below d.
+fn sets_below(d: u8) -> usize
+    requires { ⌜ d ≤ 8 ⌝ }
+    ensures { λ r. ⌜ (r ≡ 2 ^ d) × (r ≤ 256) ⌝ }
+{
+    1usize << d
+}
+
 // A permission's 13 bytes, by what base and context fix and who may act in which role.
-fn part_for(base: &[u8], s: Fixed, sets: [u8; 24], permission: u8) -> [u8; 13]
-    requires { ⌜ (refusalOf (now base) ≡ 0) × (permission < permissionCount (now base)) × (outOfRange (s .at) ≡ false) × FixedBy (now base) s × ActingSets (now base) sets ⌝ }
+fn part_for(base: &[u8], s: Fixed, sets: [u8; 24], ends: [u8; 200], permission: u8) -> [u8; 13]
+    requires { ⌜ (refusalOf (now base) ≡ 0) × (permission < permissionCount (now base)) × (outOfRange (s .at) ≡ false) × FixedBy (now base) s × ActingSets (now base) sets × NextEnds sets ends ⌝ }
     ensures { λ part. ⌜ PartFor (now (base .entry)) (s .at) permission part ⌝ }
 {
     let w = weights::role_weights(base, s, permission);
-    let its = clauses::clauses_for(reader::table(base, reader::CLAUSES), permission);
+    let its = clauses::clauses_for(reader::trailer::part(base, reader::CLAUSES), permission);
     let k = its.bytes;
     let length = its.length;
+    if length == 0 {
+        return search::blank(0);
+    }
     let heavy = heaviest(w);
+    let sets_end = sets_below(roles_end(w));
+    let masks = masks::masks_for(&k[..length], permission, 6 * heavy, sets_end);
     let mut t = [255u8; 61696];
     t[0] = 0;
-    let found = search::search(&sets, w, heavy, &k[..length], permission, 0, 0, &t);
+    let mut reached = [0u64; 964];
+    reached[0] = 1;
+    let found = search::search(&sets, &ends, w, heavy, &masks, 0, 0, &t, &reached);
     found.part
 }
 
@@ -86,9 +117,10 @@ pub fn fill(base: &[u8], s: Fixed, sets: [u8; 24], out: &mut [u8]) -> u32
     ensures { λ r. ⌜ (r ≡ releasable (now (base .entry)) (s .at)) × Filled (now (base .entry)) (s .at) (permissionCount (now (base .entry))) (now (out .entry)) (now (out .exit)) ⌝ }
 {
     let n = reader::trailer::permission_count(base);
+    let ends = levels::next_ends(sets);
     let mut count: u32 = 0;
     for p in 0..n {
-        let part = part_for(base, s, sets, p);
+        let part = part_for(base, s, sets, ends, p);
         let at = 13 * bytes::wide(p);
         put(&mut out[at..at + 13], part);
         count = count + above(part[0]);

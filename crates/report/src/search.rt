@@ -3,11 +3,12 @@ use crate::back;
 use crate::levels;
 use reader::bytes;
 ghost use mathlib.Core.Path.{_≡_};
-ghost use mathlib.Core.List.{_∷_};
-ghost use Prim.Native.Nat.{_≤_, _<_};
+ghost use mathlib.Core.List.{List, _∷_};
+ghost use Prim.Native.Nat.{ℕ, _≤_, _<_};
 ghost use lib.ListN.{length, getD, replicate};
 ghost use Rattle.report.specs.Levels.{Advanced};
-ghost use Rattle.report.specs.Search.{Start, Stepped, Sought};
+ghost use Rattle.report.specs.Back.{AtReached};
+ghost use Rattle.report.specs.Search.{Start, Asked, Stepped, Sought};
 
 // A cell of a level's table, or 61,696, and the 13 bytes with the entries that lead on from it.
 pub struct Found {
@@ -15,8 +16,8 @@ pub struct Found {
     pub part: [u8; 13],
 }
 
-// The 13 bytes of n approvers and no entry.
-fn blank(n: u8) -> [u8; 13]
+// Inner: the 13 bytes of n approvers and no entry.
+pub fn blank(n: u8) -> [u8; 13]
     ensures { λ part. ⌜ part ≡ n ∷ replicate 12 255 ⌝ }
 {
     let mut part = [255u8; 13];
@@ -41,22 +42,23 @@ fn stepped(sets: &[u8], w: [u8; 8], n: u8, t: &[u8], next: &[u8], later: Found) 
     }
 }
 
-// Inner: from the table t of n entries placed, with sums up to `top`, the fewest entries more that meet the permission's
-// condition; no role weighs more than `heavy`.
+// Inner: from the table t of n entries placed, with sums up to `top`, the fewest entries more that by the masks meet the
+// permission's condition; no role weighs more than `heavy`.
 pub fn search(
     sets: &[u8],
+    ends: &[u8],
     w: [u8; 8],
     heavy: usize,
-    k: &[u8],
-    permission: u8,
+    masks: &[u64],
     n: u8,
     top: usize,
     t: &[u8],
+    reached: &[u64],
 ) -> Found
-    requires { ⌜ Start (now sets) w heavy (now k) n top (now t) ⌝ }
-    ensures { λ f. ⌜ Sought (now (sets .entry)) w (now (k .entry)) permission n (now (t .entry)) (f .cell) (f .part) ⌝ }
+    requires { ⌜ Start (now sets) (now ends) w heavy (now masks) n top (now t) (now reached) ⌝ }
+    ensures { λ f. ⌜ AtReached (now (t .entry)) (f .cell) × (length (f .part) ≡ 13) × ((k : List ℕ) (p : ℕ) → Asked w k p heavy (now (masks .entry)) (now (t .entry)) → Sought (now (sets .entry)) w k p n (now (t .entry)) (f .cell) (f .part)) ⌝ }
 {
-    let cell = back::meeting_cell(k, permission, n as u32, top, t);
+    let cell = back::meeting_cell(masks, n, top, t, reached);
     if cell < 61696 {
         return Found {
             cell,
@@ -70,8 +72,19 @@ pub fn search(
         };
     }
     let mut next = [255u8; 61696];
-    levels::advance(sets, w, top, t, &mut next);
-    let later = search(sets, w, heavy, k, permission, n + 1, top + heavy, &next);
+    let mut marks = [0u64; 964];
+    levels::advance(ends, w, top, t, reached, &mut next, &mut marks);
+    let later = search(
+        sets,
+        ends,
+        w,
+        heavy,
+        masks,
+        n + 1,
+        top + heavy,
+        &next,
+        &marks,
+    );
     if later.cell == 61696 {
         return later;
     }

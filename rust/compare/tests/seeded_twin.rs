@@ -93,14 +93,7 @@ fn loose_bytes() {
 #[test]
 fn worst_bases() {
     let mut random = Random::new(83);
-    let plans = [
-        worst::spread(),
-        worst::gathered(),
-        worst::capped(),
-        worst::sixes(),
-        worst::few_roles(),
-    ];
-    for plan in plans {
+    for (_, plan) in worst::all() {
         let at = compare::questions::at_minute(0);
         compare_calls(&mut random, &plan.bytes(), at);
     }

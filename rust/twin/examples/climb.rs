@@ -1,50 +1,62 @@
 //! Looks for the base whose report costs most: from a random one by random
 //! changes that mostly cost more.
 //!
-//!     cargo run --offline -p twin --profile measure --example climb SEED STEPS FEWEST MOST
+//!     cargo run --offline -p twin --profile measure --example climb SEED STEPS FEWEST MOST EACH
 //!
-//! Each user holds from FEWEST to MOST roles. A permission gets four policies
-//! and four clauses, so that all 16 can have the same.
+//! Each user holds from FEWEST to MOST roles. A permission gets EACH policies
+//! and EACH clauses, and as many of 16 permissions as 64 policies suffice for
+//! have the same. No group suffices: of a clause's four conditions only the
+//! last fails.
 
 use twin::counts::{counts, Counts};
-use twin::plan::Plan;
+use twin::levels::next_ends;
+use twin::plan::{Condition, Plan};
 use twin::weights::{holders, role_weights, setting};
 use twin::Base;
+
+/// Conditions that hold for every group: on the number, sum and roles.
+const HOLDING: [Condition; 4] = [(0, 3, 255), (1, 3, 255), (2, 3, 255), (3, 6, 0)];
+
+/// Conditions that fail for every group.
+const FAILING: [Condition; 4] = [(0, 2, 255), (1, 2, 255), (2, 2, 255), (3, 6, 255)];
 
 fn main() {
     let words: Vec<u64> = std::env::args()
         .skip(1)
         .map(|word| word.parse().expect("a number"))
         .collect();
-    let [seed, steps, fewest, most] = words[..] else {
-        panic!("four numbers are asked for");
+    let [seed, steps, fewest, most, each] = words[..] else {
+        panic!("five numbers are asked for");
     };
     let allowed: Vec<u8> = (0..=255_u8)
         .filter(|roles| (fewest..=most).contains(&roles.count_ones().into()))
         .collect();
-    let plan = climb(&mut Random(seed), steps, &allowed);
-    println!("{} instructions a permission", cost(counts_of(&plan)));
+    let each = usize::try_from(each).expect("a small number");
+    let plan = climb(&mut Random(seed), steps, &allowed, each);
+    println!("{} instructions", cost(&plan));
     println!("{:?}", counts_of(&plan));
     println!("weights {:?}", weights_of(&plan));
     println!("users {:?}", plan.users);
     println!("hierarchy {:?}", plan.hierarchy);
     println!("policies {:?}", plan.policies);
+    println!("clauses {:?}", plan.clauses);
 }
 
-fn climb(random: &mut Random, steps: u64, allowed: &[u8]) -> Plan {
+fn climb(random: &mut Random, steps: u64, allowed: &[u8], each: usize) -> Plan {
     let mut plan = Plan {
         permissions: 1,
         users: (0..24).map(|_| random.pick(allowed)).collect(),
-        policies: (4..8).map(|role| (role, 0, 1, 1)).collect(),
+        policies: (0..each).map(|i| (i as u8 % 8, 0, 1, 1)).collect(),
+        clauses: vec![(0, [vec![HOLDING[0]; 3], vec![FAILING[0]]].concat()); each],
         ..Plan::default()
     };
-    let mut now = cost(counts_of(&plan));
+    let mut now = cost(&plan);
     let (mut best, mut most) = (plan.clone(), now);
     for step in 0..steps {
         let next = changed(random, &plan, allowed);
-        let then = cost(counts_of(&next));
+        let then = cost(&next);
         let gain = then as f64 - now as f64;
-        let heat = 0.03 * now as f64 * (1.0 - step as f64 / steps as f64).powi(2);
+        let heat = 0.01 * now as f64 * (1.0 - step as f64 / steps as f64).powi(2);
         if gain >= 0.0 || random.share() < (gain / heat).exp() {
             (plan, now) = (next, then);
         }
@@ -55,21 +67,29 @@ fn climb(random: &mut Random, steps: u64, allowed: &[u8]) -> Plan {
     best
 }
 
-/// What the counts cost in the library's code, besides what is the same for
-/// all: a permission with four clauses of four conditions on the sum.
-fn cost(counts: Counts) -> usize {
-    5 * counts.asked
-        + 568 * counts.reached
-        + 6 * counts.scanned
-        + 4 * counts.grown
-        + 16 * counts.growths
-        + 5 * counts.users
+/// What a report costs in the library's code if as many permissions as can
+/// have the plan's policies have them, and as many clauses: what the counts
+/// cost, filling the tables of seven levels, and what is much the same for all.
+/// The other permissions are left a clause each: their tables are filled too.
+fn cost(plan: &Plan) -> usize {
+    let counts = counts_of(plan);
+    let permissions = (64 / plan.policies.len()).min(16);
+    let filled = 7 * (61_696 + 7_712);
+    let each = 50_000
+        + filled
+        + 25 * counts.tested
+        + 11 * counts.words
+        + 21 * counts.asked
+        + 36 * counts.grown
+        + 10 * counts.growths
+        + 6 * counts.improved;
+    permissions * each + (16 - permissions) * filled
 }
 
 fn counts_of(plan: &Plan) -> Counts {
     let bytes = plan.bytes();
     let base = Base::framed(&bytes).expect("the tables are there");
-    counts(&holders(&base), weights_of(plan))
+    counts(&next_ends(&holders(&base)), weights_of(plan), base.clauses)
 }
 
 fn weights_of(plan: &Plan) -> [u8; 8] {
@@ -83,12 +103,12 @@ fn weights_of(plan: &Plan) -> [u8; 8] {
     role_weights(&base, &setting(&base, at), 0)
 }
 
-/// One to three changes of a user, the hierarchy or a policy.
+/// One to three changes of a user, the hierarchy, a policy or a condition.
 fn changed(random: &mut Random, plan: &Plan, allowed: &[u8]) -> Plan {
     let mut plan = plan.clone();
     for _ in 0..=random.below(3) {
         let (user, other) = (random.below(24), random.below(24));
-        match random.below(9) {
+        match random.below(10) {
             0 | 1 => {
                 let roles = plan.users[user] ^ 1 << random.below(8);
                 if allowed.contains(&roles) {
@@ -99,11 +119,22 @@ fn changed(random: &mut Random, plan: &Plan, allowed: &[u8]) -> Plan {
             3 => plan.users.swap(user, other),
             4 => plan.users[user] = random.pick(allowed),
             5 | 6 => turn_edge(random, &mut plan.hierarchy),
-            _ => {
+            7 | 8 => {
                 let weight = 1 + random.below(5) as u8;
                 let role = random.below(8) as u8;
                 let kind = u8::from(random.below(4) > 0);
-                plan.policies[random.below(4)] = (role, 0, weight, kind);
+                let place = random.below(plan.policies.len());
+                plan.policies[place] = (role, 0, weight, kind);
+            }
+            _ => {
+                let attribute = random.below(4);
+                let last = random.below(4) == 3;
+                let place = random.below(plan.clauses.len());
+                let conditions = &mut plan.clauses[place].1;
+                match last {
+                    true => conditions[3] = FAILING[attribute],
+                    false => conditions[random.below(3)] = HOLDING[attribute],
+                }
             }
         }
     }

@@ -8,6 +8,7 @@ mod conditions;
 pub mod counts;
 mod groups;
 pub mod levels;
+mod masks;
 mod operators;
 pub mod plan;
 mod related;
@@ -19,8 +20,10 @@ pub mod worst;
 use model::{Answer, Context};
 
 pub use base::Base;
-use conditions::Clause;
-use search::{search, Wanted};
+use levels::{heaviest, next_ends, sets, NextEnds};
+use masks::masks;
+use search::{search, Found, Wanted};
+use weights::Setting;
 
 /// The identity codes of roles 0 to 7.
 const CODES: [u32; 8] = [3, 5, 7, 11, 13, 17, 19, 23];
@@ -92,15 +95,10 @@ pub fn report(base: &[u8], at: Context, out: &mut [u8]) -> Answer {
 /// Writes the records; the number of permissions that have a group.
 fn fill(base: &Base, at: Context, records: &mut [[u8; RECORD]]) -> u32 {
     let setting = weights::setting(base, at);
-    let holders = weights::holders(base);
+    let next_ends = next_ends(&weights::holders(base));
     let mut count = 0;
     for (permission, record) in (0..base.permissions.len() as u8).zip(records) {
-        let (clauses, own) = own_clauses(base.clauses, permission);
-        let found = search(Wanted {
-            clauses: &clauses[..own],
-            holders: &holders,
-            w: weights::role_weights(base, &setting, permission),
-        });
+        let found = smallest(base, &setting, &next_ends, permission);
         record[0] = found.size as u8;
         record[1..].copy_from_slice(&found.group);
         count += u32::from(found.size > 0);
@@ -108,16 +106,18 @@ fn fill(base: &Base, at: Context, records: &mut [[u8; RECORD]]) -> u32 {
     count
 }
 
-/// The permission's clauses, one behind the other, and their number.
-fn own_clauses(clauses: &[Clause], permission: u8) -> ([Clause; 64], usize) {
-    let mut own = [[0; 16]; 64];
-    let of_permission = clauses.iter().filter(|clause| clause[0] == permission);
-    let mut count = 0;
-    for (clause, place) in of_permission.zip(&mut own) {
-        *place = *clause;
-        count += 1;
+/// A smallest group that is granted the permission.
+fn smallest(base: &Base, setting: &Setting, next_ends: &NextEnds, permission: u8) -> Found {
+    let w = weights::role_weights(base, setting, permission);
+    let top = MOST * heaviest(w);
+    match masks(base.clauses, permission, top, sets(w)) {
+        Some(masks) => search(Wanted {
+            masks: &masks,
+            next_ends,
+            w,
+        }),
+        None => search::NONE,
     }
-    (own, count)
 }
 
 #[cfg(test)]

@@ -1,16 +1,16 @@
 //! The search for one permission: level by level up to the first that meets
 //! the condition, then back.
 
-use crate::back::{step_back, Cell};
-use crate::conditions::{holds, Clause};
-use crate::levels::{advance, heaviest, reached, Holders, Level, Row, Weights, NOTHING};
+use crate::back::step_back;
+use crate::levels::{heaviest, Level, NextEnds, Weights};
+use crate::masks::Masks;
 use crate::MOST;
 
-/// What is searched for: a group that meets one of these clauses.
+/// What is searched for: a group that meets a clause.
 #[derive(Clone, Copy)]
 pub struct Wanted<'a> {
-    pub clauses: &'a [Clause],
-    pub holders: &'a Holders,
+    pub masks: &'a Masks,
+    pub next_ends: &'a NextEnds,
     pub w: Weights,
 }
 
@@ -20,13 +20,16 @@ pub struct Found {
     pub group: [u8; 2 * MOST],
 }
 
+/// No group.
+pub const NONE: Found = Found {
+    size: 0,
+    group: [255; 2 * MOST],
+};
+
 pub fn search(wanted: Wanted) -> Found {
-    let mut level = NOTHING;
-    level[0][0] = 0;
-    let mut found = Found {
-        size: 0,
-        group: [255; 2 * MOST],
-    };
+    let mut level = Level::unreached();
+    level.relax(0, 0);
+    let mut found = NONE;
     search_from(wanted, heaviest(wanted.w), 0, &level, &mut found);
     found
 }
@@ -40,15 +43,15 @@ fn search_from(
     n: usize,
     level: &Level,
     found: &mut Found,
-) -> Option<Cell> {
+) -> Option<usize> {
     let Wanted {
-        clauses,
-        holders,
+        masks,
+        next_ends,
         w,
     } = wanted;
-    let sums = &level[..=n * heavy];
+    let top = n * heavy;
     if n >= 1 {
-        let cell = meeting_cell(clauses, n as u32, sums);
+        let cell = masks.meeting_cell(n, top, level);
         if cell.is_some() {
             found.size = n;
             return cell;
@@ -57,22 +60,12 @@ fn search_from(
     if n == MOST {
         return None;
     }
-    let mut next = NOTHING;
-    advance(holders, w, sums, &mut next);
+    let mut next = Level::unreached();
+    level.advance(next_ends, w, top, &mut next);
     let cell = search_from(wanted, heavy, n + 1, &next, found)?;
-    let end = cell.end(&next);
-    let (before, role) = step_back(holders, w, level, cell, end)?;
+    let end = next.ends[cell];
+    let (before, role) = step_back(next_ends, w, level, cell, end)?;
     found.group[2 * n] = end - 1;
     found.group[2 * n + 1] = role;
     Some(before)
-}
-
-/// The first reached cell that meets the condition with n entries.
-fn meeting_cell(clauses: &[Clause], n: u32, sums: &[Row]) -> Option<Cell> {
-    if clauses.is_empty() {
-        return None;
-    }
-    reached(sums, |sum, set, _| {
-        holds(clauses, n, sum as u32, set).then_some(Cell { sum, set })
-    })
 }

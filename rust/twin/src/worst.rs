@@ -1,82 +1,129 @@
-//! The bases whose reports cost most, as far as a search found them. All 16
-//! permissions have the same weights, and every level is made for each.
+//! The bases whose reports cost most, as far as a search found them. All
+//! permissions with policies have the same weights, and every level is made
+//! for each.
 
 use crate::plan::{Condition, Plan};
 
-/// Four conditions of which only the last fails, whatever the group.
+/// Four conditions on the sum of which only the last fails, whatever the group.
 pub const LAST_FAILS: [Condition; 4] = [(1, 3, 255), (1, 3, 255), (1, 3, 255), (1, 2, 255)];
 
 /// The same by `!=`, `<`, `!=` and `==`.
 const CAPS: [Condition; 4] = [(1, 5, 255), (1, 1, 255), (1, 5, 254), (1, 4, 255)];
 
-/// The same on the roles alone: six entries have no seven roles.
-const ROLES: [Condition; 4] = [(3, 6, 0), (3, 6, 0), (2, 5, 0), (2, 2, 7)];
+/// The same on the number of roles: there are no nine.
+const ROLE_NUMS: [Condition; 4] = [(2, 3, 9), (2, 3, 9), (2, 3, 9), (2, 2, 9)];
 
-/// The same for all sums but 108, which only six entries in the heaviest role
+/// The same on the roles: six entries don't have all eight.
+const ROLES: [Condition; 4] = [(3, 6, 0), (3, 6, 0), (3, 6, 0), (3, 6, 255)];
+
+/// The same on the number of roles for all sums but 102, which only six entries in the heaviest role
 /// have: the last cell of all.
-const LAST_CELL: [Condition; 4] = [(1, 3, 255), (1, 3, 255), (1, 3, 255), (1, 2, 108)];
+const LAST_CELL: [Condition; 4] = [(2, 3, 9), (2, 3, 9), (2, 3, 9), (1, 2, 102)];
 
-/// A few users with almost every role, many with none, and two at the end:
-/// whoever is found soon, the next user is soon far away.
-const USERS: [u8; 24] = [
-    255, 255, 255, 247, 177, 0, 0, 0, 0, 0, 0, 0, 0, 0, 0, 0, 0, 0, 0, 0, 0, 0, 12, 255,
-];
+/// Users, each role's direct juniors, and roles with their weights in the
+/// policies of a permission.
+#[derive(Clone, Copy)]
+struct Shop<'a> {
+    users: &'a [u8],
+    juniors: [u8; 8],
+    policies: &'a [(u8, u8)],
+}
 
-/// Each role's direct juniors.
-const JUNIORS: [u8; 8] = [28, 216, 96, 192, 64, 128, 0, 0];
+/// The roles weigh 17, 14, 12, 9, 8, 3, 4 and 5, and of the 3,002 cells that
+/// six entries could reach they reach 2,960. Who holds a heavy role stands
+/// early or late, so that nearly every way to a cell ends before the ones so
+/// far.
+const SPREAD: Shop = Shop {
+    users: &[
+        3, 15, 15, 23, 28, 16, 152, 208, 192, 112, 96, 224, 56, 224, 148, 206, 18, 93, 116, 54, 3,
+        206, 30, 129,
+    ],
+    juniors: [38, 136, 216, 192, 160, 0, 0, 0],
+    policies: &[(7, 5), (5, 3), (6, 4), (1, 5)],
+};
 
-/// Role and weight: with the juniors, the roles weigh 18, 13, 14, 9, 8, 10, 4
-/// and 5, and of the 3,002 cells that six entries could reach they reach 2,931.
-const POLICIES: [(u8, u8); 4] = [(5, 5), (4, 4), (7, 5), (6, 4)];
+/// The same where users have two to four roles: the roles weigh 14, 17, 10,
+/// 12, 9, 3, 4 and 5, and reach 2,954 cells.
+const FEW_ROLES: Shop = Shop {
+    users: &[
+        10, 7, 3, 11, 13, 20, 24, 156, 208, 192, 96, 96, 224, 112, 100, 228, 116, 140, 225, 131,
+        156, 7, 48, 224,
+    ],
+    juniors: [20, 140, 128, 176, 192, 0, 0, 0],
+    policies: &[(6, 4), (7, 5), (5, 3), (2, 5)],
+};
 
-/// Users of two to four roles: five with different ones, many with the same
-/// two, and two at the end.
-const FEW_ROLES: [u8; 24] = [
-    29, 77, 204, 212, 177, 34, 34, 34, 34, 34, 34, 34, 34, 34, 34, 34, 34, 34, 34, 34, 34, 34, 216,
-    85,
-];
-
-/// Each role's direct juniors where users have few roles.
-const FEW_JUNIORS: [u8; 8] = [18, 160, 192, 80, 128, 64, 0, 0];
-
-/// Role and weight: with the juniors, the roles weigh 18, 13, 9, 14, 10, 8, 4
-/// and 5, and reach 2,909 cells.
-const FEW_POLICIES: [(u8, u8); 4] = [(5, 4), (4, 5), (7, 5), (6, 4)];
+/// Twice the policies a permission: the roles weigh 38, 28, 23, 24, 19, 9, 4
+/// and 5, and reach 2,989 cells.
+const HEAVY: Shop = Shop {
+    users: &[
+        15, 27, 31, 62, 180, 192, 128, 96, 160, 80, 160, 180, 220, 180, 172, 22, 202, 66, 161, 161,
+        205, 27, 232, 205,
+    ],
+    juniors: [142, 68, 240, 112, 224, 64, 0, 0],
+    policies: &[
+        (1, 5),
+        (6, 4),
+        (4, 5),
+        (7, 5),
+        (3, 5),
+        (0, 5),
+        (2, 4),
+        (5, 5),
+    ],
+};
 
 /// All of them, with their names.
-pub fn all() -> [(&'static str, Plan); 7] {
+pub fn all() -> [(&'static str, Plan); 11] {
     [
         ("spread", spread()),
         ("gathered", gathered()),
-        ("capped", capped()),
+        ("gathered sums", gathered_sums()),
         ("by roles", by_roles()),
+        ("by sums", by_sums()),
+        ("capped", capped()),
         ("sixes", sixes()),
         ("few roles", few_roles()),
+        ("few users", few_users()),
+        ("heavy", heavy()),
         ("dense", dense()),
     ]
 }
 
 /// The worst of all: the same policies and four clauses for each permission.
 pub fn spread() -> Plan {
-    plan(USERS, JUNIORS, POLICIES, LAST_FAILS)
+    plan(SPREAD, ROLE_NUMS)
 }
 
 /// The same with all clauses for one permission.
 pub fn gathered() -> Plan {
     Plan {
-        clauses: vec![(0, LAST_FAILS.to_vec()); 64],
+        clauses: vec![(0, ROLE_NUMS.to_vec()); 64],
         ..spread()
     }
 }
 
-/// The same with sums capped by `==`, `<` and `!=`.
-pub fn capped() -> Plan {
-    plan(USERS, JUNIORS, POLICIES, CAPS)
+/// All clauses for one permission, with conditions on large sums.
+pub fn gathered_sums() -> Plan {
+    Plan {
+        clauses: vec![(0, LAST_FAILS.to_vec()); 64],
+        ..heavy()
+    }
 }
 
-/// The same with conditions on the roles acted in.
+/// The same as the worst with conditions on the roles.
 pub fn by_roles() -> Plan {
-    plan(USERS, JUNIORS, POLICIES, ROLES)
+    plan(SPREAD, ROLES)
+}
+
+/// The same with conditions on the sum.
+pub fn by_sums() -> Plan {
+    plan(SPREAD, LAST_FAILS)
+}
+
+/// The same with sums capped by `==`, `<` and `!=`.
+pub fn capped() -> Plan {
+    plan(SPREAD, CAPS)
 }
 
 /// The same with a group of six for each permission, found by the last clause
@@ -91,30 +138,42 @@ pub fn sixes() -> Plan {
 
 /// Users of two to four roles each.
 pub fn few_roles() -> Plan {
-    plan(FEW_ROLES, FEW_JUNIORS, FEW_POLICIES, LAST_FAILS)
+    plan(FEW_ROLES, ROLE_NUMS)
+}
+
+/// No more users than a group has, each with every role, and one clause of one
+/// condition for each permission: the model has least to do.
+pub fn few_users() -> Plan {
+    let users = &[255; 6];
+    Plan {
+        clauses: (0..16).map(|i| (i, vec![ROLE_NUMS[3]])).collect(),
+        ..plan(Shop { users, ..SPREAD }, ROLE_NUMS)
+    }
+}
+
+/// Large sums for half of the permissions, as 64 policies suffice for no more.
+pub fn heavy() -> Plan {
+    plan(HEAVY, ROLE_NUMS)
 }
 
 /// Users who hold every role.
 pub fn dense() -> Plan {
-    plan([255; 24], JUNIORS, POLICIES, LAST_FAILS)
+    let users = &[255; 24];
+    plan(Shop { users, ..SPREAD }, ROLE_NUMS)
 }
 
-/// The same policies and the same clause four times for each permission.
-fn plan(
-    users: [u8; 24],
-    juniors: [u8; 8],
-    policies: [(u8, u8); 4],
-    clause: [Condition; 4],
-) -> Plan {
+/// The same policies for as many of 16 permissions as 64 suffice for, and the
+/// same clause four times for each.
+fn plan(shop: Shop, clause: [Condition; 4]) -> Plan {
     let for_all = (0..16).flat_map(|permission| {
-        let policies = policies.into_iter();
-        policies.map(move |(role, weight)| (role, permission, weight, 1))
+        let policies = shop.policies.iter();
+        policies.map(move |&(role, weight)| (role, permission, weight, 1))
     });
     Plan {
         permissions: 16,
-        users: users.to_vec(),
-        hierarchy: hierarchy(juniors),
-        policies: for_all.collect(),
+        users: shop.users.to_vec(),
+        hierarchy: hierarchy(shop.juniors),
+        policies: for_all.take(64).collect(),
         clauses: (0..64).map(|i| (i % 16, clause.to_vec())).collect(),
     }
 }
@@ -131,6 +190,7 @@ mod tests {
     use super::*;
     use crate::base::Base;
     use crate::counts::{counts, Counts};
+    use crate::levels::next_ends;
     use crate::weights::{holders, role_weights, setting};
     use model::Context;
 
@@ -157,40 +217,51 @@ mod tests {
 
     #[test]
     fn each_user_has_two_to_four_roles() {
-        assert!(FEW_ROLES
-            .iter()
-            .all(|roles| (2..=4).contains(&roles.count_ones())));
+        let mut users = FEW_ROLES.users.iter();
+        assert!(users.all(|roles| (2..=4).contains(&roles.count_ones())));
     }
 
-    /// The counts that the search for the worst base ended with.
-    fn expect_counts(plan: &Plan, w: [u8; 8], found: Counts) {
+    /// The counts that the search for the worst base ended with, for each
+    /// permission with policies. Each clause stands there four times.
+    fn expect_counts(plan: &Plan, permissions: u8, w: [u8; 8], found: Counts) {
         let bytes = plan.bytes();
         let base = Base::read(&bytes).expect("the base passes");
-        for permission in 0..16 {
+        let clauses = [base.clauses[0]; 4];
+        for permission in 0..permissions {
             let weights = role_weights(&base, &setting(&base, AT), permission);
             assert_eq!(weights, w);
-            assert_eq!(counts(&holders(&base), weights), found);
+            let next_ends = next_ends(&holders(&base));
+            assert_eq!(counts(&next_ends, weights, &clauses), found);
         }
     }
 
     #[test]
     fn nearly_every_multiset_of_roles_is_reached() {
         let found = Counts {
-            asked: 98_304,
-            reached: 2_931,
-            scanned: 70_656,
-            grown: 1_282,
-            growths: 10_256,
-            users: 140_202,
+            tested: 4_096,
+            words: 2_496,
+            asked: 2_960,
+            grown: 1_284,
+            growths: 10_272,
+            improved: 9_588,
         };
-        expect_counts(&spread(), [18, 13, 14, 9, 8, 10, 4, 5], found);
+        expect_counts(&spread(), 16, [17, 14, 12, 9, 8, 3, 4, 5], found);
         let found = Counts {
-            reached: 2_909,
-            grown: 1_279,
-            growths: 10_232,
-            users: 119_641,
+            asked: 2_954,
+            grown: 1_283,
+            growths: 10_264,
+            improved: 9_772,
             ..found
         };
-        expect_counts(&few_roles(), [18, 13, 9, 14, 10, 8, 4, 5], found);
+        expect_counts(&few_roles(), 16, [14, 17, 10, 12, 9, 3, 4, 5], found);
+        let found = Counts {
+            words: 5_520,
+            asked: 2_989,
+            grown: 1_287,
+            growths: 10_296,
+            improved: 9_576,
+            ..found
+        };
+        expect_counts(&heavy(), 8, [38, 28, 23, 24, 19, 9, 4, 5], found);
     }
 }

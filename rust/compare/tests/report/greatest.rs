@@ -26,15 +26,16 @@ fn spread_with(conditions: &[GroupCondition]) -> Vec<u8> {
     plan.bytes()
 }
 
-/// The heaviest role weighs 18, and six users hold it: 108 is their sum and no
-/// other's. 95 is five times 18 and 5; 90 is five times 18; a role weighs 4.
+/// The heaviest role weighs 17, and seven users hold it: 102 is the sum of six
+/// of them and no other's. 90 is five times 17 and 5; 85 is five times 17; two
+/// roles weigh 3 and 4.
 #[test]
 fn a_group_among_the_most_cells() {
     for (conditions, k) in [
-        (vec![(1, 2, 109)], 0),
-        (vec![(1, 2, 108)], 6),
-        (vec![(1, 4, 95)], 6),
-        (vec![(1, 4, 90)], 5),
+        (vec![(1, 2, 103)], 0),
+        (vec![(1, 2, 102)], 6),
+        (vec![(1, 4, 90)], 6),
+        (vec![(1, 4, 85)], 5),
         (vec![(1, 1, 5)], 1),
     ] {
         let base = spread_with(&conditions);

@@ -1,82 +1,60 @@
-use Prim.Native.Nat.{ℕ, _+_, _-_, _*_, _≤_, _<_}
-use mathlib.Core.Path.{_≡_, sym, ap, _∙_}
-use mathlib.Core.Logic.{inl, inr}
-use native.Mathlib.Nat.{le-of-eq}
-use lib.ListN.{length, getD, length-replicate}
-use Rattle.report.specs.Levels.{Advanced}
-use Rattle.report.proofs.Step.{below-255, advanced-start, advanced-skip, advanced-more, advanced-rest}
 use native.Mathlib.Omega.{arith}
 use borrow.Author.Needs.{needs}
+use Prim.Native.Nat.{ℕ, _+_, _-_, _*_, _≤_, _<_}
+use mathlib.Core.Path.{_≡_, sym, ap, _∙_}
+use mathlib.Core.List.{List}
+use lib.ListN.{length, length-replicate}
+use Rattle.report.specs.Levels.{NextEnds, Advanced}
+use Rattle.report.specs.Marks.{Marked}
+use Rattle.report.proofs.Step.{level-wider, advanced-start, advanced-rest}
+use Rattle.report.proofs.Marking.{marked-none, word-for}
 use Rattle.report.proofs.levels.advance.Statement.{statement}
 use Rattle.report.proofs.levels.advance.Tie as tie
+use Rattle.report.proofs.levels.advance.Reads as reads
+use Rattle.report.proofs.levels.advance.Lts as lts
+use Rattle.report.proofs.levels.advance_word.Reads as advance-word-reads
 
 abbrev Inv-loop : tie.InvT-loop
-Inv-loop sets w top t next₀ cell₀ cell-end next cell = (cell ≤ 256 * (top + 1)) × Advanced sets w t cell next
+Inv-loop ends w top t reached next₀ marks₀ q₀ q-end next marks q = (q ≤ 4 * (top + 1)) × Marked next marks × ((sets : List ℕ) → NextEnds sets ends → Advanced sets w t (64 * q) next)
 
 abbrev μ-loop : tie.MeasureT-loop
-μ-loop sets w top t next₀ cell₀ cell-end next cell = 256 * (top + 1) - cell
+μ-loop ends w top t reached next₀ marks₀ q₀ q-end next marks q = 4 * (top + 1) - q
 
-add-cell-end : tie.Need-add-cell-end Inv-loop μ-loop
-add-cell-end c = omega (arith, c .before .before .before .pre .2)
+add-q-end : tie.Need-add-q-end Inv-loop μ-loop
+add-q-end c = omega (arith, c .before .before .before .before .before .pre .2)
 
-mul-cell-end : tie.Need-mul-cell-end Inv-loop μ-loop
-mul-cell-end c = omega (arith, c .before .before .before .pre .2)
+mul-q-end : tie.Need-mul-q-end Inv-loop μ-loop
+mul-q-end c = omega (arith, c .before .before .before .before .before .pre .2)
 
 loop-holds : tie.Need-loop-holds Inv-loop μ-loop
-loop-holds c = (search needs, rw (c .before .before .before .pre .4) (advanced-start (c .before .before .before .args .sets .now) (c .before .before .before .args .w) (c .before .before .before .args .t .now)))
+loop-holds c = (search needs, rw (c .before .before .before .before .before .pre .5) (marked-none _ (c .before .before .before .before .before .pre .6)), λ sets n. rw (c .before .before .before .before .before .pre .5) (advanced-start sets (c .before .before .before .before .before .args .w) (c .before .before .before .before .before .args .t .now)))
 
-shared-slice-read-end : tie.Need-shared-slice-read-end Inv-loop μ-loop
-shared-slice-read-end c = let h = c .before .before .before .before .before .before .pre .3 .sums .size in let m = c .before .before .before .before .before .before .pre .2 in omega arith
+mul-advance-word : tie.Need-mul-advance-word Inv-loop μ-loop
+mul-advance-word c = omega (arith, c .before .loop .inv .0, c .before .before .before .before .before .before .before .pre .2)
 
-cast-grow : tie.Need-cast-grow Inv-loop μ-loop
-cast-grow c = search needs
+shared-slice-read-advance-word : tie.Need-shared-slice-read-advance-word Inv-loop μ-loop
+shared-slice-read-advance-word c = omega (arith, c .before .loop-test .taken, c .before .before .before .before .before .before .before .before .pre .2, c .before .before .before .before .before .before .before .before .pre .4 .words)
 
-wide-requires : tie.Need-wide-requires Inv-loop μ-loop
-wide-requires c κs = search needs
+advance-word-requires : tie.Need-advance-word-requires Inv-loop μ-loop
+advance-word-requires c κs = let low = c .before .before .before .before .before .before .before .before .before .before .pre .2 in let m = c .before .before .before .loop-test .taken in let in-range : c .before .before .before .before .loop .q < 964 = omega arith in (c .before .before .before .before .before .before .before .before .before .before .pre .0, c .before .before .before .before .before .before .before .before .before .before .pre .1, level-wider _ 200 _ (c .before .before .before .before .before .before .before .before .before .before .pre .2) (c .before .before .before .before .before .before .before .before .before .before .pre .3), in-range, word-for _ _ (c .before .before .before .before .before .before .before .before .before .before .pre .4) (c .before .before .before .before .loop .q) in-range, c .before .before .before .before .loop .inv .1)
 
-grow-requires : tie.Need-grow-requires Inv-loop μ-loop
-grow-requires c κs =
-    let l = c .before .before .before .before .before .loop in
-    let low = c .before .before .before .before .before .before .before .before .before .pre .2 in
-    let small : l .cell < 61696 = let m = c .before .before .before .before .loop-test .taken in omega arith in
-    let reached : getD (c .before .before .before .before .before .before .before .before .before .args .t .now) (l .cell) 0 < 255 = below-255 _ (c .before .before .if1 .taken) (c .before .before .before .shared-slice-known3 .given (l .cell)) in (
-      c .before .before .before .before .before .before .before .before .before .pre .0,
-      rw (c .before .wide .ensures .0) (c .before .before .before .before .before .before .before .before .before .pre .3 .within (l .cell) small reached),
-      let sum = c .before .before .before .before .before .before .before .before .before .pre .3 .sums .sum (l .cell) small reached in omega arith,
-      c .before .before .before .before .before .before .before .before .before .pre .1,
-      l .inv .1 .size,
-    )
-
-add-cell : tie.Need-add-cell Inv-loop μ-loop
-add-cell c = omega (arith, c .before .before .before .before .before .before .before .pre .2)
+add-q : tie.Need-add-q Inv-loop μ-loop
+add-q c = omega (arith, c .before .before .before .before .before .before .before .before .before .loop .inv .0, c .before .before .before .before .before .before .before .before .before .before .before .before .before .before .before .pre .2)
 
 loop-less : tie.Need-loop-less Inv-loop μ-loop
 loop-less c = search needs
 
 loop-again : tie.Need-loop-again Inv-loop μ-loop
-loop-again c =
-    let l = c .before .before .before .loop in
-    let low = c .before .before .before .before .before .before .before .pre .2 in
-    let small : l .cell < 61696 = let m = c .before .before .loop-test .taken in omega arith in
-    let sets = c .before .before .before .before .before .before .before .args .sets .now in
-    let w = c .before .before .before .before .before .before .before .args .w in
-    let t = c .before .before .before .before .before .before .before .args .t .now in (
-      search needs,
-      elim (c .if1 .came) [
-        | inl d ↦
-            let reached : getD t (l .cell) 0 < 255 = below-255 _ (d .0 .taken) (c .before .shared-slice-known3 .given (l .cell)) in
-            rw (d .6) (advanced-more sets w t _ _ _ small reached (l .inv .1) (rw (d .1 .ensures .0) at (d .3 .ensures)))
-        | inr d ↦ rw (d .1) (advanced-skip sets w t _ _ (d .0 .left) (l .inv .1))
-      ],
-    )
+loop-again c = let e : 64 * (c .before .before .before .before .before .before .before .before .before .loop .q + 1) ≡ 64 * c .before .before .before .before .before .before .before .before .before .loop .q + 64 = omega arith in (search needs, c .before .before .before .before .advance-word .ensures .1, λ sets n. rw e (c .before .before .before .before .advance-word .ensures .0 sets n (c .before .before .before .before .before .before .before .before .before .loop .inv .2 sets n)))
 
 same-length : tie.Need-same-length Inv-loop μ-loop
-same-length c = let l = c .before .loop in l .inv .1 .size ∙ sym (ap length (c .before .before .before .before .before .pre .4) ∙ length-replicate {A = ℕ} 61696 255)
+same-length c = c .before .loop .inv .1 .size ∙ sym (ap length (c .before .before .before .before .before .before .before .pre .5) ∙ length-replicate {A = ℕ} 61696 255)
+
+same-length-2 : tie.Need-same-length-2 Inv-loop μ-loop
+same-length-2 c = c .before .loop .inv .1 .words ∙ sym (c .before .before .before .before .before .before .before .pre .6)
 
 returns : tie.Need-returns Inv-loop μ-loop
-returns c =
-    let l = c .before .loop in
-    advanced-rest (c .before .before .before .before .before .args .sets .now) (c .before .before .before .before .before .args .w) (c .before .before .before .before .before .args .t .now) (c .before .before .before .before .before .args .top) (l .cell) _ (c .loop-test .left) (c .before .before .before .before .before .pre .3 .sums) (l .inv .1)
+returns c = let l = c .before .loop in let past = c .loop-test .left in (λ sets n. advanced-rest sets (c .before .before .before .before .before .before .before .args .w) (c .before .before .before .before .before .before .before .args .t .now) (c .before .before .before .before .before .before .before .args .top) (64 * l .q) _ (omega arith) (c .before .before .before .before .before .before .before .pre .3 .sums) (l .inv .2 sets n), l .inv .1)
 
 pub advance-spec : {M : Type 1} → statement M
 advance-spec =
@@ -84,15 +62,15 @@ advance-spec =
     (tie.spec
     Inv-loop
     μ-loop
-    add-cell-end
-    mul-cell-end
+    add-q-end
+    mul-q-end
     loop-holds
-    shared-slice-read-end
-    cast-grow
-    wide-requires
-    grow-requires
-    add-cell
+    mul-advance-word
+    shared-slice-read-advance-word
+    advance-word-requires
+    add-q
     loop-less
     loop-again
     same-length
+    same-length-2
     returns)

@@ -18,8 +18,8 @@ Inv-loop base users roles sets₀ u₀ sets u = (u ≤ 24) × (length sets ≡ 2
 abbrev μ-loop : tie.MeasureT-loop
 μ-loop base users roles sets₀ u₀ sets u = 24 - u
 
-table-requires : tie.Need-table-requires Inv-loop μ-loop
-table-requires c κs = search needs
+part-requires : tie.Need-part-requires Inv-loop μ-loop
+part-requires c κs = (accepted-frame _ (c .before .pre), search needs)
 
 role-count-requires : tie.Need-role-count-requires Inv-loop μ-loop
 role-count-requires c κs = framed _ (accepted-frame _ (c .before .before .pre)) .long
@@ -44,7 +44,7 @@ loop-again c =
     let l = c .before .before .loop in (
       search needs,
       length-set (l .sets) (l .u) _ ∙ l .inv .1,
-      stored (l .sets) (l .u) _ (λ v x. x ≡ setBelow 8 (mayActBy (c .before .before .before .role-count .result) (c .before .before .before .before .table .result .now) v)) (rw (l .inv .1) (c .before .loop-test .taken)) (l .inv .2) (c .acting-roles .ensures),
+      stored (l .sets) (l .u) _ (λ v x. x ≡ setBelow 8 (mayActBy (c .before .before .before .role-count .result) (c .before .before .before .before .part .result .now) v)) (rw (l .inv .1) (c .before .loop-test .taken)) (l .inv .2) (c .acting-roles .ensures),
     )
 
 returns : tie.Need-returns Inv-loop μ-loop
@@ -52,7 +52,7 @@ unfolding setBelow
 returns c =
     let l = c .before .loop in
     let e : l .u ≡ 24 = omega arith in
-    record { size = l .inv .1; user = λ v m. rw (← c .before .before .role-count .ensures, ← c .before .before .before .table .ensures) (l .inv .2 v (rw e m)) }
+    record { size = l .inv .1; user = λ v m. rw (← c .before .before .role-count .ensures, ← c .before .before .before .part .ensures) (l .inv .2 v (rw e m)) }
 
 pub acting-sets-spec : {M : Type 1} → statement M
 acting-sets-spec =
@@ -60,7 +60,7 @@ acting-sets-spec =
     (tie.spec
     Inv-loop
     μ-loop
-    table-requires
+    part-requires
     role-count-requires
     loop-holds
     acting-roles-requires

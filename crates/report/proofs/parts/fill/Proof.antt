@@ -18,22 +18,25 @@ use Rattle.report.proofs.parts.fill.Statement.{statement}
 use Rattle.report.proofs.parts.fill.Tie as tie
 
 abbrev Inv-loop : tie.InvT-loop
-Inv-loop base s sets out₀ n count₀ p₀ out count p = (p ≤ n) × (length out ≡ length out₀) × (count ≡ countBelow p (λ q. ltb 0 (smallestOf base (s .at) q))) × Filled base (s .at) p out₀ out
+Inv-loop base s sets out₀ n ends count₀ p₀ out count p = (p ≤ n) × (length out ≡ length out₀) × (count ≡ countBelow p (λ q. ltb 0 (smallestOf base (s .at) q))) × Filled base (s .at) p out₀ out
 
 abbrev μ-loop : tie.MeasureT-loop
-μ-loop base s sets out₀ n count₀ p₀ out count p = n - p
+μ-loop base s sets out₀ n ends count₀ p₀ out count p = n - p
 
 permission-count-requires : tie.Need-permission-count-requires Inv-loop μ-loop
 permission-count-requires c κs = accepted-frame _ (c .before .before .pre .0)
+
+next-ends-requires : tie.Need-next-ends-requires Inv-loop μ-loop
+next-ends-requires c κs = c .before .before .before .pre .3 .size
 
 loop-holds : tie.Need-loop-holds Inv-loop μ-loop
 loop-holds c = (search needs, refl, sym (count-none _), filled-none _ _ _)
 
 part-for-requires : tie.Need-part-for-requires Inv-loop μ-loop
 part-for-requires c κs =
-    let n = c .before .before .permission-count .ensures in
+    let n = c .before .before .before .permission-count .ensures in
     let m = c .loop-test .taken in
-    (c .before .before .before .before .before .pre .0, omega arith, c .before .before .before .before .before .pre .1, c .before .before .before .before .before .pre .2, c .before .before .before .before .before .pre .3)
+    (c .before .before .before .before .before .before .pre .0, omega arith, c .before .before .before .before .before .before .pre .1, c .before .before .before .before .before .before .pre .2, c .before .before .before .before .before .before .pre .3, c .before .before .next-ends .ensures)
 
 wide-requires : tie.Need-wide-requires Inv-loop μ-loop
 wide-requires c κs = search needs
@@ -54,8 +57,8 @@ part-put-end : tie.Need-part-put-end Inv-loop μ-loop
 part-put-end c =
     let l = c .before .before .before .loop in
     let w = c .wide .ensures .0 in
-    let fit = c .before .before .before .before .before .before .before .pre .4 in
-    let n = c .before .before .before .before .permission-count .ensures in
+    let fit = c .before .before .before .before .before .before .before .before .pre .4 in
+    let n = c .before .before .before .before .before .permission-count .ensures in
     let m = c .before .before .loop-test .taken in
     let same = l .inv .1 in
     omega arith
@@ -72,10 +75,10 @@ above-requires c κs = search needs
 add-count : tie.Need-add-count Inv-loop μ-loop
 add-count c =
     let l = c .before .before .before .before .before .before .before .before .loop in
-    let m = count-le (λ q. ltb 0 (smallestOf (c .before .before .before .before .before .before .before .before .before .before .before .before .args .base .now) (c .before .before .before .before .before .before .before .before .before .before .before .before .args .s .at) q)) (l .p) in
+    let m = count-le (λ q. ltb 0 (smallestOf (c .before .before .before .before .before .before .before .before .before .before .before .before .before .args .base .now) (c .before .before .before .before .before .before .before .before .before .before .before .before .before .args .s .at) q)) (l .p) in
     let e = l .inv .2 in
     let a = c .above .ensures .1 in
-    let small : Fits w8 (c .before .before .before .before .before .before .before .before .before .permission-count .result) = search needs in
+    let small : Fits w8 (c .before .before .before .before .before .before .before .before .before .before .permission-count .result) = search needs in
     let f = small .fits in
     let past = c .before .before .before .before .before .before .before .loop-test .taken in
     omega arith
@@ -90,8 +93,8 @@ loop-again : tie.Need-loop-again Inv-loop μ-loop
 loop-again c =
     let l = c .before .before .before .before .before .before .before .before .loop in
     let fit : 13 * (l .p) + 13 ≤ length (l .out) =
-    let room = c .before .before .before .before .before .before .before .before .before .before .before .before .pre .4 in
-    let n = c .before .before .before .before .before .before .before .before .before .permission-count .ensures in
+    let room = c .before .before .before .before .before .before .before .before .before .before .before .before .before .pre .4 in
+    let n = c .before .before .before .before .before .before .before .before .before .before .permission-count .ensures in
     let m = c .before .before .before .before .before .before .before .loop-test .taken in
     let same = l .inv .1 in
     omega arith in (
@@ -108,8 +111,8 @@ returns : tie.Need-returns Inv-loop μ-loop
 unfolding releasable
 returns c =
     let l = c .before .loop in
-    let e : l .p ≡ c .before .before .permission-count .result = omega arith in
-    (l .inv .2 ∙ rw (e, c .before .before .permission-count .ensures), rw (e, c .before .before .permission-count .ensures) at (l .inv .3))
+    let e : l .p ≡ c .before .before .before .permission-count .result = omega arith in
+    (l .inv .2 ∙ rw (e, c .before .before .before .permission-count .ensures), rw (e, c .before .before .before .permission-count .ensures) at (l .inv .3))
 
 pub fill-spec : {M : Type 1} → statement M
 fill-spec =
@@ -118,6 +121,7 @@ fill-spec =
     Inv-loop
     μ-loop
     permission-count-requires
+    next-ends-requires
     loop-holds
     part-for-requires
     wide-requires
