@@ -2,9 +2,9 @@
 use Prim.Native.Nat.{ℕ, zero, suc, _+_, _<_, _≤_}
 use mathlib.Core.Path.{_≡_, refl, ap, _∙_}
 use mathlib.Core.Logic.{⊎-elim}
-use mathlib.Core.List.{List, [], _∷_, _++_, append-assoc, append-nil}
+use mathlib.Core.List.{List, [], _∷_, _++_, append-nil}
 use native.Mathlib.Numerals.{add-one}
-use native.Mathlib.Nat.{add-zero, add-suc, eq-or-lt-of-le, le-of-suc-le-suc}
+use native.Mathlib.Nat.{add-zero, eq-or-lt-of-le, le-of-suc-le-suc}
 use native.Mathlib.Omega.{arith}
 use lib.ListN.{length, getD, set, length-append}
 use lib.Seq.{sets, getD-set-same, getD-set-other}
@@ -21,12 +21,6 @@ module _ (f : ℕ → List ℕ) where
   pub join-more : (n : ℕ) → joinBelow (n + 1) f ≡ joinBelow n f ++ f n
   unfolding joinBelow
   join-more n = rw add-one
-
-  -- the lists below m, and then the next n
-  pub join-split : (m n : ℕ) → joinBelow (m + n) f ≡ joinBelow m f ++ joinBelow n (λ i. f (m + i))
-  unfolding joinBelow
-  join-split m zero = rw (add-zero, append-nil)
-  join-split m (suc n) = rw (add-suc, join-split m n) (append-assoc (joinBelow m f) (joinBelow n (λ i. f (m + i))) (f (m + n)))
 
   -- empty lists from m on add nothing
   pub join-tail : (m n : ℕ) → m ≤ n → ((i : ℕ) → m ≤ i → i < n → f i ≡ []) → joinBelow n f ≡ joinBelow m f

@@ -6,7 +6,7 @@ use native.Mathlib.Numerals.{add-one, one-add}
 use native.Mathlib.Nat.{add-comm, one-mul, zero-mul, div-eq-of-lt, div-div-eq-div-mul, mod-one, mod-eq-of-lt, pow-succ', le-refl, lt-of-lt-of-le, lt-of-le-of-lt, lt-of-not-le, not-suc-le-zero}
 use native.Mathlib.Omega.{arith}
 use lib.Dec.{ltb, eqb, eqb·suc-suc, eqb·zero-suc, eqb·suc-zero, lit<}
-use lib.Pow.{pow-pos, pow-mono, pow-add, shl-exact, mod-pow-add}
+use lib.Pow.{pow-pos, pow-mono, shl-exact, mod-pow-add}
 use lib.Bits.{bitOr, bitAnd, or-shr, or-mod, or-shifted-r, or-add-and, and-shr, and-mod, and-le-r, and-lt}
 use lib.Count.{ones, onesIn, ones-cat}
 use borrow.Author.Tests.{eqb-true, eqb-false, eq-eqb, ne-eqb, ltb-true, ltb-false}
@@ -215,8 +215,3 @@ meet-some n a b ha hb =
     by true e d = refl
     by false e d =
         absurd (d (same-set n (bitAnd a b) 0 (and-lt n a b ha hb) (pow-pos n) (λ r l. in-and a b r ∙ any-at (λ r. inSet a r && inSet b r) n e r l ∙ sym (in-none r))))
-
--- a set shifted right has each of its numbers that much lower
-pub in-lowered : (s k r : ℕ) → inSet (s / 2 ^ k) r ≡ inSet s (k + r)
-unfolding inSet
-in-lowered s k r = rw (div-div-eq-div-mul s (2 ^ k) (2 ^ r), ← pow-add 2 k r)

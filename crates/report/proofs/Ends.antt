@@ -1,7 +1,7 @@
 -- The table of next ends, from the last user to the first.
 use Prim.Native.Nat.{ℕ, _+_, _*_, _/_, _%_, _<_, _≤_}
 use mathlib.Core.Bool.{true, false}
-use mathlib.Core.Path.{_≡_, refl, ap, _∙_}
+use mathlib.Core.Path.{_≡_}
 use mathlib.Core.Logic.{⊎-elim}
 use mathlib.Core.List.{List}
 use native.Mathlib.Omega.{arith}
@@ -12,7 +12,7 @@ use lib.ListN.{length, getD, set, replicate, getD-replicate}
 use lib.Seq.{getD-set-same, getD-set-other}
 use Rattle.folds.specs.Sets.{inSet}
 use Rattle.folds.proofs.Bools.{met-or-not, clash}
-use Rattle.report.specs.Levels.{Next, NextEnd}
+use Rattle.report.specs.Levels.{NextEnd}
 
 module _ (sets : List ℕ) (users : length sets ≡ 24) where
   -- the user at the place may act in the role

@@ -5,7 +5,6 @@ pub mod Deeper
 pub mod Demand
 pub mod Ends
 pub mod Filling
-pub mod Gathered
 pub mod Grow
 pub mod Joined
 pub mod Least
@@ -18,5 +17,6 @@ pub mod Shown
 pub mod Standing
 pub mod Step
 pub mod Stepping
+pub mod Striking
 pub mod Turned
 pub mod Users

@@ -1,6 +1,6 @@
 -- Marked cells: what a mark more changes, and the cells of a word one by one.
 use Prim.Native.Nat.{ℕ, _+_, _-_, _*_, _/_, _%_, _^_, _<_, _≤_}
-use mathlib.Core.Bool.{true, false, _&&_, _||_, not, or-true, and-true, and-false}
+use mathlib.Core.Bool.{true, false, _&&_, not, or-true, and-true, and-false}
 use mathlib.Core.Path.{_≡_, refl, sym, _∙_}
 use mathlib.Core.Logic.{⊎-elim}
 use mathlib.Core.List.{List}

@@ -1,7 +1,7 @@
 -- The masks of a permission tell whether its condition holds.
 use Prim.Native.Nat.{ℕ, zero, suc, _/_, _%_, _^_, _<_, _≤_}
 use mathlib.Core.Bool.{Bool, true, false, _&&_, _||_, not, and-true, and-false}
-use mathlib.Core.Path.{_≡_, refl, _∙_}
+use mathlib.Core.Path.{_≡_, refl, sym, ap, _∙_}
 use mathlib.Core.List.{List}
 use native.Mathlib.Omega.{arith}
 use borrow.Author.Tests.{le-ltb, ne-eqb}
@@ -9,13 +9,13 @@ use lib.Dec.{eqb}
 use lib.Bits.{bitAnd, and-lt}
 use Rattle.folds.specs.Below.{allBelow}
 use Rattle.folds.specs.Sets.{inSet}
-use Rattle.folds.proofs.Tests.{any-same}
-use Rattle.folds.proofs.Sets.{set-lt, in-set, in-and, meet-some}
+use Rattle.folds.proofs.Tests.{any-same, any-each}
+use Rattle.folds.proofs.Sets.{set-lt, in-none, in-set, in-and, meet-some}
 use Rattle.reader.specs.Tables.{clauses, recordCount}
 use Rattle.reader.specs.Fields.{clausePermission, clauseLength, conditionAttribute, conditionOperator, conditionValue}
 use Rattle.weights.specs.Operators.{meets}
 use Rattle.decision.specs.Conditions.{attribute, conditionHolds, clauseHolds, clauseOfHolds, permissionHolds}
-use Rattle.report.specs.Masks.{kindOf, fitsAt, fits, clauseOfFits, fitting, Masks, metBy}
+use Rattle.report.specs.Masks.{kindOf, fitsAt, fits, clauseOfFits, fitting, clausesOf, Masks, metBy}
 
 -- an attribute has the value that the one thing gives it that it is of
 attribute-apart : (f : ℕ → Bool) (number sum set a : ℕ)
@@ -86,3 +86,10 @@ pub masks-tell : (k : List ℕ) (p top end : ℕ) (masks : List ℕ) → Masks k
     → (n c : ℕ) → n ≤ 6 → c / 256 ≤ top → c % 256 < end → metBy masks n c ≡ permissionHolds k p n (c / 256) (c % 256)
 masks-tell k p top end masks m n c few low within =
     rw (m .number n few, m .sum (c / 256) low, m .set (c % 256) within) (meet-tells k p n (c / 256) (c % 256))
+
+-- without a clause a permission's condition never holds
+pub bare : (k : List ℕ) (p : ℕ) → clausesOf k p ≡ 0 → (n sum set : ℕ) → permissionHolds k p n sum set ≡ false
+unfolding permissionHolds clausesOf
+bare k p e n sum set =
+    any-each (clauseOfHolds k p n sum set) (recordCount clauses k)
+    (λ i l. let own : eqb (clausePermission k i) p ≡ false = sym (in-set (λ i. eqb (clausePermission k i) p) (recordCount clauses k) i l) ∙ ap (λ (s : ℕ). inSet s i) e ∙ in-none i in rw own)

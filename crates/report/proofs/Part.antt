@@ -1,5 +1,5 @@
 -- A permission's 13 bytes: what the search hands back, by the base.
-use Prim.Native.Nat.{ℕ, _*_, _<_, _≤_}
+use Prim.Native.Nat.{ℕ, _<_, _≤_}
 use mathlib.Core.Bool.{Bool, true, false, _&&_}
 use mathlib.Core.Path.{_≡_, refl, sym, ap, _∙_}
 use mathlib.Core.Logic.{_↔_, ⊎-elim}
@@ -9,24 +9,24 @@ use native.Mathlib.Nat.{lt-of-lt-of-le}
 use borrow.Author.Tests.{eqb-true, eq-eqb, ltb-true, ltb-false, lt-ltb, le-ltb}
 use lib.Dec.{ltb, eqb, lit<}
 use lib.ListN.{length, getD, List·getD-eq-default}
-use Rattle.folds.specs.Sets.{inSet, setBelow}
+use Rattle.folds.specs.Sets.{inSet}
 use Rattle.folds.proofs.Bools.{met-or-not}
 use Rattle.folds.proofs.Sets.{in-set, in-none}
-use Rattle.reader.specs.Tables.{users, clauses, roleCount, permissionCount, recordCount, tableOf}
+use Rattle.reader.specs.Tables.{users, clauses, roleCount, permissionCount, tableOf}
 use Rattle.reader.specs.Rules.{refusalOf}
 use Rattle.reader.proofs.Frame.{roles-range, table-length, size-le}
 use Rattle.reader.proofs.Accepted.{accepted-frame}
 use Rattle.weights.specs.declared.Context.{Context}
 use Rattle.weights.specs.Contexts.{outOfRange}
 use Rattle.weights.specs.Weights.{weight}
-use Rattle.weights.specs.Acting.{mayActBy, mayAct}
+use Rattle.weights.specs.Acting.{mayAct}
 use Rattle.weights.specs.Setting.{AreWeights}
 use Rattle.weights.proofs.Known.{acting-known}
 use Rattle.decision.specs.Decision.{eligible, userCount, decisionOf}
 use Rattle.decision.specs.Conditions.{permissionHolds}
 use Rattle.decision.specs.Granting.{Granted}
 use Rattle.decision.proofs.Granting.{granted-by}
-use Rattle.report.specs.Smallest.{smallest, smallestOf}
+use Rattle.report.specs.Smallest.{smallestOf}
 use Rattle.report.specs.Search.{Sought}
 use Rattle.report.specs.Parts.{ActingSets, PartFor}
 use Rattle.report.proofs.Bridge.{Tables}
@@ -44,21 +44,6 @@ with-both false b false h = refl
 -- the table K of an accepted base has at most 1,024 bytes
 pub clauses-short : (b : List ℕ) → refusalOf b ≡ 0 → length (tableOf b clauses) ≤ 1024
 clauses-short b ok = rw (table-length b (accepted-frame b ok) 3 (lit< tt)) (size-le b (accepted-frame b ok) 3 (lit< tt))
-
--- conditions that agree grant the same groups
-granted-same : {U R : ℕ} {may : ℕ → ℕ → Bool} {weigh : ℕ → ℕ} (c d : ℕ → ℕ → ℕ → Bool) → ((n sum set : ℕ) → c n sum set ≡ d n sum set) →
-    (t : List ℕ) → Granted U R may weigh c t → Granted U R may weigh d t
-granted-same c d same t g = record {
-  whole = g .whole;
-  some = g .some;
-  few = g .few;
-  user = g .user;
-  role = g .role;
-  different = g .different;
-  acting = g .acting;
-  heavy = g .heavy;
-  holds = sym (same _ _ _) ∙ g .holds;
-}
 
 module _ (b : List ℕ) (at : Context) (p : ℕ) (ok : refusalOf b ≡ 0) where
   -- the sets of a base say who may act in which role
@@ -86,12 +71,11 @@ module _ (b : List ℕ) (at : Context) (p : ℕ) (ok : refusalOf b ≡ 0) where
   }
 
   -- what the search finds is the permission's part
-  pub part-shown : p < permissionCount b → outOfRange at ≡ false → (sets w k : List ℕ) → ActingSets b sets → AreWeights b at p w →
-      ((n sum set : ℕ) → permissionHolds k p n sum set ≡ permissionHolds (tableOf b clauses) p n sum set) →
-      (cell : ℕ) (part : List ℕ) → Sought sets w k p 0 emptyTable cell part → PartFor b at p part
+  pub part-shown : p < permissionCount b → outOfRange at ≡ false → (sets w : List ℕ) → ActingSets b sets → AreWeights b at p w →
+      (cell : ℕ) (part : List ℕ) → Sought sets w (tableOf b clauses) p 0 emptyTable cell part → PartFor b at p part
   unfolding smallestOf
-  part-shown there in-range sets w k acting are same cell part s =
-      let f : Shown granted part = sought-shown k p (tables-of sets w acting are) (roles-range b (accepted-frame b ok) .1) granted (of-decision b at p) is cell part s in
+  part-shown there in-range sets w acting are cell part s =
+      let f : Shown granted part = sought-shown (tableOf b clauses) p (tables-of sets w acting are) (roles-range b (accepted-frame b ok) .1) granted (of-decision b at p) is cell part s in
       record {
         group = f .group;
         shown = record { number = f .number; granted = λ l. eqb-true _ _ (f .grants l); rising = f .rising };
@@ -101,8 +85,8 @@ module _ (b : List ℕ) (at : Context) (p : ℕ) (ok : refusalOf b ≡ 0) where
       granted : List ℕ → Bool
       granted g = eqb (decisionOf b at p g) 0
 
-      is : (t : List ℕ) → (granted t ≡ true) ↔ Granted (userCount b) (roleCount b) (eligible b at p) (λ r. weight b at r p) (permissionHolds k p) t
+      is : (t : List ℕ) → (granted t ≡ true) ↔ Granted (userCount b) (roleCount b) (eligible b at p) (λ r. weight b at r p) (permissionHolds (tableOf b clauses) p) t
       is t = (
-        λ h. granted-same (permissionHolds (tableOf b clauses) p) (permissionHolds k p) (λ n sum set. sym (same n sum set)) t (granted-by b at p t .0 (eqb-true _ _ h) .3),
-        λ g. eq-eqb _ _ (granted-by b at p t .1 (ok, there, in-range, granted-same (permissionHolds k p) (permissionHolds (tableOf b clauses) p) same t g)),
+        λ h. granted-by b at p t .0 (eqb-true _ _ h) .3,
+        λ g. eq-eqb _ _ (granted-by b at p t .1 (ok, there, in-range, g)),
       )

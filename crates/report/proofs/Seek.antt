@@ -1,8 +1,8 @@
 -- The search at one level, from what is found one level on.
-use Prim.Native.Nat.{ℕ, zero, suc, _+_, _-_, _*_, _/_, _%_, _^_, _<_, _≤_}
-use mathlib.Core.Bool.{Bool, true, false}
+use Prim.Native.Nat.{ℕ, suc, _+_, _-_, _*_, _/_, _%_, _^_, _<_, _≤_}
+use mathlib.Core.Bool.{false}
 use mathlib.Core.Path.{_≡_, refl, sym, ap, _∙_}
-use mathlib.Core.List.{List, [], _∷_, _++_, append-nil, append-assoc}
+use mathlib.Core.List.{List, [], _∷_, _++_, append-assoc}
 use native.Mathlib.Omega.{arith}
 use native.Mathlib.Nat.{le-refl, le-of-lt, lt-irrefl, lt-of-le-of-lt, add-zero, not-suc-le-zero}
 use lib.Bits.{bitOr, or-zero-r}
@@ -10,7 +10,7 @@ use lib.ListN.{length, getD, set, replicate, length-replicate, replicate-append-
 use lib.Seq.{set-at, append-snoc}
 use Rattle.folds.proofs.Sets.{or-assoc}
 use Rattle.decision.specs.Conditions.{permissionHolds}
-use Rattle.report.specs.Rising.{Entry, May, Rises, sumOf, rolesOf, bytesOf}
+use Rattle.report.specs.Rising.{Entry, May, sumOf, rolesOf, bytesOf}
 use Rattle.report.specs.Levels.{place, Entered, target, LeadsTo, Sums, Advanced}
 use Rattle.report.specs.Back.{Meeting}
 use Rattle.report.specs.Search.{holdsWith, LeadsOn, Unmet, partFrom, FoundFrom, Stepped, Sought}

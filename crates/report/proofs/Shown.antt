@@ -1,31 +1,32 @@
 -- What the search finds from the empty group is a smallest granted group.
-use Prim.Native.Nat.{ℕ, zero, suc, _+_, _-_, _*_, _/_, _%_, _^_, _<_, _≤_}
-use mathlib.Core.Bool.{Bool, true, false, _&&_}
-use mathlib.Core.Path.{_≡_, refl, sym, ap, _∙_}
-use mathlib.Core.Logic.{_↔_, _⊎_, ⊎-elim}
-use mathlib.Core.List.{List, [], _∷_, _++_}
+use Prim.Native.Nat.{ℕ, zero, suc, _+_, _*_, _%_, _^_, _<_, _≤_}
+use mathlib.Core.Bool.{Bool, true, false}
+use mathlib.Core.Path.{_≡_, refl, sym, _∙_}
+use mathlib.Core.Logic.{_↔_, ⊎-elim}
+use mathlib.Core.List.{List, [], _∷_}
 use native.Mathlib.Omega.{arith}
-use native.Mathlib.Nat.{eq-or-lt-of-le, lt-irrefl, lt-of-not-le, zero-add}
+use native.Mathlib.Nat.{eq-or-lt-of-le, lt-irrefl, zero-add}
 use native.Mathlib.Decide.{decLt}
 use lib.Bits.{or-zero-l}
 use lib.Dec.{lit<}
 use lib.ListN.{length, getD, set, replicate, length-set, length-replicate, getD-replicate}
 use lib.Seq.{getD-set-other}
 use lib.Pow.{pow-pos}
-use Rattle.folds.specs.Below.{anyBelow}
 use Rattle.folds.specs.Sets.{inSet}
 use Rattle.folds.proofs.Bools.{met-or-not, clash}
-use Rattle.decision.specs.Groups.{entryCount, entryUser}
+use Rattle.decision.specs.Groups.{entryUser}
 use Rattle.decision.specs.Conditions.{permissionHolds}
 use Rattle.decision.specs.Granting.{Granted}
 use Rattle.report.specs.Smallest.{smallest}
 use Rattle.report.specs.Rising.{Entry, Rises, sumOf, rolesOf, bytesOf}
 use Rattle.report.specs.Levels.{Level}
 use Rattle.report.specs.Marks.{Marked}
-use Rattle.report.specs.Search.{holdsWith, LeadsOn, partFrom, FoundFrom, Sought}
+use Rattle.report.specs.Masks.{clausesOf}
+use Rattle.report.specs.Search.{holdsWith, LeadsOn, FoundFrom, Sought}
 use Rattle.report.specs.Report.{partOf}
 use Rattle.report.proofs.Bridge.{Tables}
 use Rattle.report.proofs.Turned.{rises-rising, rises-granted, granted-rises, bytes-length}
+use Rattle.report.proofs.Masked.{bare}
 use Rattle.report.proofs.Seek.{sought-none}
 use Rattle.report.proofs.Least.{OfBytes, smallest-is, smallest-zero}
 
@@ -59,9 +60,16 @@ pub empty-sets : (d c : ℕ) → c < 61696 → getD emptyTable c 0 < 255 → c %
 empty-sets d c l h = rw (empty-reached c l h) (pow-pos d)
 
 -- where a permission has no clause, nothing is found
-pub sought-bare : (sets w : List ℕ) (p : ℕ) → Sought sets w [] p 0 emptyTable 61696 (0 ∷ replicate 12 255)
-unfolding permissionHolds anyBelow
-sought-bare sets w p = sought-none sets w [] p 0 emptyTable (0 ∷ replicate 12 255) (λ c g l. refl) refl
+pub sought-bare : (sets w k : List ℕ) (p : ℕ) → clausesOf k p ≡ 0 → Sought sets w k p 0 emptyTable 61696 (0 ∷ replicate 12 255)
+sought-bare sets w k p none = sought-none sets w k p 0 emptyTable (0 ∷ replicate 12 255) (λ c g l. bare k p none _ _ _) refl
+
+-- nor where no role has weight
+pub sought-weightless : (sets w k : List ℕ) (p : ℕ) → ((r : ℕ) → r < 8 → getD w r 0 ≤ 0) → Sought sets w k p 0 emptyTable 61696 (0 ∷ replicate 12 255)
+sought-weightless sets w k p light = sought-none sets w k p 0 emptyTable (0 ∷ replicate 12 255) none refl
+  where
+    none : (c : ℕ) (g : List Entry) → LeadsOn sets w 0 emptyTable c g → holdsWith w k p 0 c g ≡ false
+    none c [] l = let some = l .some in absurd (omega arith)
+    none c (e ∷ g) l = let a = light (e .role) (l .rises .1 .role) in let b = l .rises .1 .heavy in absurd (omega arith)
 
 -- the 13 bytes of a smallest group, by rising user
 pub record Shown (granted : List ℕ → Bool) (part : List ℕ) : Type 0 where

@@ -2,24 +2,24 @@
 use Prim.Native.Nat.{ℕ, _+_, _*_, _/_, _%_, _^_, _<_, _≤_}
 use mathlib.Core.Bool.{Bool, true, _&&_}
 use mathlib.Core.Path.{_≡_, ap, _∙_}
-use mathlib.Core.Logic.{_⊎_, ⊎-elim}
-use mathlib.Core.List.{List, [], _∷_}
+use mathlib.Core.Logic.{⊎-elim}
+use mathlib.Core.List.{List}
 use native.Mathlib.Omega.{arith}
-use native.Mathlib.Nat.{le-trans, lt-of-lt-of-le, lt-of-le-of-lt, lt-irrefl, eq-or-lt-of-le, le-of-suc-le-suc, lt-of-not-le, add-comm}
+use native.Mathlib.Nat.{le-trans, lt-of-le-of-lt, lt-irrefl, eq-or-lt-of-le, le-of-suc-le-suc, lt-of-not-le}
 use native.Mathlib.Numerals.{add-one}
 use borrow.Author.Tests.{leb-true, leb-false, le-leb}
 use mir.Val.{Fits}
 use mir.Syntax.{w8}
-use lib.Bits.{bitOr, or-comm, or-lt}
+use lib.Bits.{bitOr, or-lt}
 use lib.Pow.{pow-lt}
-use lib.Dec.{leb, lit<}
+use lib.Dec.{leb}
 use lib.ListN.{length, getD, replicate, getD-replicate, length-replicate, List·getD-eq-default}
 use Rattle.folds.specs.Below.{firstBelow}
 use Rattle.folds.specs.Sets.{inSet}
 use Rattle.folds.proofs.Bools.{met-or-not, clash, and-left, and-right, and-both}
 use Rattle.folds.proofs.Tests.{first-at, first-least, first-le}
 use Rattle.folds.proofs.Sets.{in-none}
-use Rattle.report.specs.Levels.{place, Next, Entered, target, Brought, Grown, LeadsTo, Sums, Level, Advanced}
+use Rattle.report.specs.Levels.{place, Next, Brought, Grown, LeadsTo, Sums, Level, Advanced}
 
 -- a byte that isn't 255
 pub below-255 : (x : ℕ) → (x ≡ 255 → ⊥) → Fits w8 x → x < 255

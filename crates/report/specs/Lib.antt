@@ -2,7 +2,6 @@ pub mod Smallest
 pub mod Rising
 pub mod Levels
 pub mod Marks
-pub mod Clauses
 pub mod Masks
 pub mod Back
 pub mod Search

@@ -6,7 +6,6 @@ ghost use Rattle.report.specs.Report.{Reported};
 ghost use Rattle.report.specs.Demand.{Demanded};
 
 mod back;
-mod clauses;
 mod levels;
 mod marks;
 mod masks;

@@ -1,5 +1,4 @@
 // The 13 bytes of each permission.
-use crate::clauses;
 use crate::levels;
 use crate::masks;
 use crate::search;
@@ -68,21 +67,23 @@ fn sets_below(d: u8) -> usize
     1usize << d
 }
 
-// A permission's 13 bytes, by what base and context fix and who may act in which role.
+// A permission's 13 bytes, by what base and context fix and who may act in which role. Without weight or clause there is
+// no group.
 fn part_for(base: &[u8], s: Fixed, sets: [u8; 24], ends: [u8; 200], permission: u8) -> [u8; 13]
     requires { ⌜ (refusalOf (now base) ≡ 0) × (permission < permissionCount (now base)) × (outOfRange (s .at) ≡ false) × FixedBy (now base) s × ActingSets (now base) sets × NextEnds sets ends ⌝ }
     ensures { λ part. ⌜ PartFor (now (base .entry)) (s .at) permission part ⌝ }
 {
     let w = weights::role_weights(base, s, permission);
-    let its = clauses::clauses_for(reader::trailer::part(base, reader::CLAUSES), permission);
-    let k = its.bytes;
-    let length = its.length;
-    if length == 0 {
+    let heavy = heaviest(w);
+    if heavy == 0 {
         return search::blank(0);
     }
-    let heavy = heaviest(w);
+    let k = reader::trailer::part(base, reader::CLAUSES);
+    if masks::own_clauses(k, permission) == 0 {
+        return search::blank(0);
+    }
     let sets_end = sets_below(roles_end(w));
-    let masks = masks::masks_for(&k[..length], permission, 6 * heavy, sets_end);
+    let masks = masks::masks_for(k, permission, 6 * heavy, sets_end);
     let mut t = [255u8; 61696];
     t[0] = 0;
     let mut reached = [0u64; 964];

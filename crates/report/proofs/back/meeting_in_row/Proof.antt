@@ -7,7 +7,7 @@ use mathlib.Core.Logic.{⊎-elim}
 use native.Mathlib.Nat.{le-refl, lt-irrefl}
 use borrow.Author.Tests.{ltb-true, ltb-false}
 use lib.Dec.{ltb}
-use lib.ListN.{length, getD}
+use lib.ListN.{getD}
 use Rattle.folds.proofs.Bools.{met-or-not}
 use Rattle.report.specs.Back.{rowMet}
 use Rattle.report.proofs.Marking.{word-for}

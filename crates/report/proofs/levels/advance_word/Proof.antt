@@ -1,12 +1,12 @@
 use native.Mathlib.Omega.{arith}
 use borrow.Author.Needs.{needs}
-use Prim.Native.Nat.{ℕ, _+_, _-_, _*_, _^_, _≤_, _<_}
+use Prim.Native.Nat.{ℕ, _+_, _*_, _^_, _≤_, _<_}
 use mathlib.Core.Path.{_≡_, sym, ap, _∙_}
 use mathlib.Core.Logic.{inl, inr, ⊎-elim}
 use mathlib.Core.List.{List}
 use native.Mathlib.Nat.{add-zero, pos-of-ne-zero, le-of-lt, le-refl, lt-irrefl, eq-or-lt-of-le}
 use lib.Count.{trailingZeros}
-use lib.ListN.{length, getD}
+use lib.ListN.{getD}
 use mir.Val.{Fits}
 use mir.Syntax.{w64}
 use Rattle.report.specs.Levels.{NextEnds, Advanced}

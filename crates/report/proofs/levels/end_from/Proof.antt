@@ -1,6 +1,5 @@
 use native.Mathlib.Omega.{arith}
 use mathlib.Core.Path.{sym, _∙_}
-use borrow.Author.Tests.{not-false}
 use Rattle.report.proofs.Ends.{end-here, end-later}
 use borrow.Author.Needs.{needs}
 use Rattle.report.proofs.levels.end_from.Statement.{statement}

@@ -3,7 +3,6 @@ use borrow.Author.Needs.{needs}
 use Prim.Native.Nat.{ℕ, _≤_, _-_}
 use mathlib.Core.Path.{_≡_, sym, _∙_}
 use mathlib.Core.List.{List}
-use lib.ListN.{length}
 use Rattle.report.specs.Levels.{NextEnds, Grown}
 use Rattle.report.specs.Marks.{Marked}
 use Rattle.report.proofs.Grow.{grown-more, grown-start}

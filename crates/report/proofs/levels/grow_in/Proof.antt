@@ -1,7 +1,7 @@
 use native.Mathlib.Omega.{arith}
-use Prim.Native.Nat.{_+_, _*_, _<_, _≤_}
-use mathlib.Core.Path.{_≡_, _∙_}
-use lib.ListN.{length, getD}
+use Prim.Native.Nat.{_+_, _*_}
+use mathlib.Core.Path.{_∙_}
+use lib.ListN.{getD}
 use native.Mathlib.Nat.{pos-of-ne-zero, le-of-suc-le-suc}
 use Rattle.report.proofs.Grow.{grown-none, grown-by}
 use borrow.Author.Needs.{needs}

@@ -1,6 +1,6 @@
 use mathlib.Core.Path.{refl, sym, _∙_}
 use native.Mathlib.Omega.{arith}
-use lib.ListN.{length, length-set, set}
+use lib.ListN.{length-set, set}
 use lib.Seq.{getD-set-same, getD-set-other}
 use native.Mathlib.Nat.{min-eq-left, min-eq-right, le-of-lt}
 use Rattle.report.specs.Levels.{Relaxed}

@@ -6,7 +6,7 @@ use Rattle.folds.specs.Sets.{setBelow}
 use Rattle.folds.proofs.Lists.{stored}
 use Rattle.reader.proofs.Frame.{framed, roles-range}
 use Rattle.reader.proofs.Accepted.{accepted-frame}
-use Rattle.weights.specs.Acting.{mayActBy, mayAct}
+use Rattle.weights.specs.Acting.{mayActBy}
 use borrow.Author.Needs.{needs}
 use native.Mathlib.Omega.{arith}
 use Rattle.report.proofs.parts.acting_sets.Statement.{statement}

@@ -1,13 +1,12 @@
-use Prim.Native.Nat.{ℕ, _+_, _-_, _*_, _<_, _≤_}
+use Prim.Native.Nat.{_+_, _-_, _*_, _≤_}
 use mathlib.Core.Path.{_≡_, refl, sym, ap, _∙_}
-use mathlib.Core.List.{List}
 use native.Mathlib.Omega.{arith}
 use mir.Val.{Fits}
 use mir.Syntax.{w8}
 use lib.Dec.{ltb}
-use lib.ListN.{length, getD}
+use lib.ListN.{length}
 use Rattle.folds.specs.Below.{countBelow}
-use Rattle.folds.proofs.Numbers.{count-none, count-more, count-le}
+use Rattle.folds.proofs.Numbers.{count-none, count-le}
 use Rattle.reader.proofs.Accepted.{accepted-frame}
 use Rattle.report.specs.Smallest.{smallestOf}
 use Rattle.report.specs.Report.{releasable}

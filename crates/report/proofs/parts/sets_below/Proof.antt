@@ -1,8 +1,6 @@
 use native.Mathlib.Omega.{arith}
 use Rattle.folds.proofs.Sets.{one-shifted}
 use lib.Pow.{pow-mono}
-use mathlib.Core.Path.{_≡_}
-use Prim.Native.Nat.{_^_, _≤_}
 use borrow.Author.Needs.{needs}
 use Rattle.report.proofs.parts.sets_below.Statement.{statement}
 use Rattle.report.proofs.parts.sets_below.Tie as tie

@@ -1,4 +1,3 @@
-use native.Mathlib.Omega.{arith}
 use Rattle.report.proofs.Seek.{end-above, stepped-back}
 use borrow.Author.Needs.{needs}
 use Rattle.report.proofs.search.stepped.Statement.{statement}
