@@ -148,7 +148,8 @@ uint64_t release_report(const uint8_t *base, size_t base_len,
  * - kind 1: two policies of equal role and permission, whose contexts can hold
  *   together, with different weight or type;
  * - kind 2: two policies for permissions that exclude each other, and some
- *   role is covered by both;
+ *   role is covered by both, whatever their contexts; a policy covers its role
+ *   and, if its type is 1, that role's seniors;
  * - kind 3: a user, and an exclusion whose two roles that user holds.
  * First and second are the records' numbers in A, of kind 3 in U and X. Later
  * bytes of out keep their contents.

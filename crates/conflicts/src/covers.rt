@@ -38,7 +38,7 @@ fn cover(a: &[u8], i: usize, juniors: [u8; 8]) -> u8
     weights::sets::role_bit(role) | seniors_of(juniors, role)
 }
 
-// The sets of the roles that the policies cover.
+// Inner: the sets of the roles that the policies cover.
 pub fn cover_sets(h: &[u8], a: &[u8]) -> [u8; 64]
     requires { ⌜ (hierarchyBad 8 (now h) ≡ false) × (policiesBad 8 256 (now a) ≡ false) × (length (now a) / 8 ≤ 64) ⌝ }
     ensures { λ r. ⌜ Covers (now (h .entry)) (now (a .entry)) r ⌝ }
@@ -72,7 +72,7 @@ fn add_exclusion(sets: &mut [u32; 16], x: &[u8], e: usize)
     add_pair(sets, x[3 * e + 2], x[3 * e + 1]);
 }
 
-// The permissions that each permission excludes, a set a permission.
+// Inner: the permissions that each permission excludes, a set a permission.
 pub fn excluded_sets(x: &[u8]) -> [u32; 16]
     requires { ⌜ exclusionsBad 8 16 (now x) ≡ false ⌝ }
     ensures { λ r. ⌜ Excluded (now (x .entry)) r ⌝ }

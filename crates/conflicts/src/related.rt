@@ -142,7 +142,7 @@ fn joins_clause(c: &[u8], number: u8, i: usize, j: usize) -> bool
     are_compatible(c, i, j)
 }
 
-// The context numbers x and y are related, by a table C that passed the check.
+// Inner: the context numbers x and y are related, by a table C that passed the check.
 pub fn are_related(c: &[u8], x: u8, y: u8) -> bool
     requires { ⌜ (contextsBad (now c) ≡ false) × (length (now c) ≡ 16 * recordCount contexts (now c)) ⌝ }
     ensures { λ r. ⌜ r ≡ related (now (c .entry)) x y ⌝ }

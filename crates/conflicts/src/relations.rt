@@ -10,7 +10,7 @@ ghost use Rattle.reader.specs.Tables.{contexts, recordCount};
 ghost use Rattle.reader.specs.Rules.{contextsBad, policiesBad};
 ghost use Rattle.conflicts.specs.Rows.{slotOf, numberAt, named, relatedSlots, Relations};
 
-// The place of a context number: 0 to 15, and 16 for 255.
+// Inner: the place of a context number: 0 to 15, and 16 for 255.
 pub fn slot(number: u8) -> u8
     requires { ⌜ (number ≤ 15) ⊎ (number ≡ 255) ⌝ }
     ensures { λ r. ⌜ (r ≡ slotOf number) × (r ≤ 16) ⌝ }
@@ -30,7 +30,7 @@ fn number_at(s: u8) -> u8
     s
 }
 
-// The set of the slots that the policies name.
+// Inner: the set of the slots that the policies name.
 pub fn names(a: &[u8]) -> u32
     requires { ⌜ policiesBad 8 256 (now a) ≡ false ⌝ }
     ensures { λ r. ⌜ ((s : ℕ) → inSet r s ≡ named (now (a .entry)) s) ⌝ }
@@ -72,7 +72,7 @@ fn relation_row(c: &[u8], names: u32, s: u8) -> u32
     row
 }
 
-// The related slots, a row a slot.
+// Inner: the related slots, a row a slot.
 pub fn relations(c: &[u8], names: u32) -> [u32; 17]
     requires { ⌜ (contextsBad (now c) ≡ false) × (length (now c) ≡ 16 * recordCount contexts (now c)) ⌝ }
     ensures { λ r. ⌜ Relations (now (c .entry)) names r ⌝ }

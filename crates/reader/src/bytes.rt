@@ -23,6 +23,7 @@ fn wide32(x: u8) -> u32
     x as u32
 }
 
+// Inner: the number in 2 bytes.
 pub fn get16(b: &[u8], i: usize) -> u16
     requires { ⌜ i + 2 ≤ length (now b) ⌝ }
     ensures { λ r. ⌜ r ≡ word16 (now (b .entry)) i ⌝ }
@@ -30,6 +31,7 @@ pub fn get16(b: &[u8], i: usize) -> u16
     wide16(b[i]) + 256 * wide16(b[i + 1])
 }
 
+// Inner: the number in 4 bytes.
 pub fn get32(b: &[u8], i: usize) -> u32
     requires { ⌜ i + 4 ≤ length (now b) ⌝ }
     ensures { λ r. ⌜ r ≡ word32 (now (b .entry)) i ⌝ }

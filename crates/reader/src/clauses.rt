@@ -75,7 +75,7 @@ fn clause_bad(k: &[u8], i: usize, roles: u8, permissions: u8) -> bool
     k[16 * i + 15] != 0
 }
 
-// Refusal 6.
+// Inner: refusal 6.
 pub fn clauses_bad(k: &[u8], roles: u8, permissions: u8) -> bool
     requires { ⌜ roles ≤ 8 ⌝ }
     ensures { λ r. ⌜ r ≡ clausesBad roles permissions (now (k .entry)) ⌝ }

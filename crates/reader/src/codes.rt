@@ -47,7 +47,7 @@ pub fn held_by(users: &[u8], roles: u8, user: usize, role: usize) -> bool
     code_divides(role, bytes::get32(users, 4 * user))
 }
 
-// Refusal 5.
+// Inner: refusal 5.
 pub fn users_bad(users: &[u8], roles: u8) -> bool
     requires { ⌜ roles ≤ 8 ⌝ }
     ensures { λ r. ⌜ r ≡ usersBad roles (now (users .entry)) ⌝ }

@@ -75,7 +75,7 @@ fn context_bad(c: &[u8], i: usize) -> bool
     c[16 * i + 15] != 0
 }
 
-// Refusal 7.
+// Inner: refusal 7.
 pub fn contexts_bad(c: &[u8]) -> bool
     ensures { λ r. ⌜ r ≡ contextsBad (now (c .entry)) ⌝ }
 {

@@ -4,7 +4,7 @@ ghost use Prim.Native.Nat.{_+_, _*_, _≤_};
 ghost use lib.ListN.{length};
 ghost use Rattle.reader.specs.Rules.{hierarchyBad, policyBad, policiesBad, exclusionBad, exclusionsBad};
 
-// Refusal 4.
+// Inner: refusal 4.
 pub fn hierarchy_bad(h: &[u8], roles: u8) -> bool
     ensures { λ r. ⌜ r ≡ hierarchyBad roles (now (h .entry)) ⌝ }
 {
@@ -41,7 +41,7 @@ fn policy_bad(a: &[u8], i: usize, roles: u8, permissions: u8) -> bool
     15 < a[8 * i + 4] && a[8 * i + 4] != 255
 }
 
-// Refusal 8.
+// Inner: refusal 8.
 pub fn policies_bad(a: &[u8], roles: u8, permissions: u8) -> bool
     ensures { λ r. ⌜ r ≡ policiesBad roles permissions (now (a .entry)) ⌝ }
 {
@@ -69,7 +69,7 @@ fn exclusion_bad(x: &[u8], i: usize, roles: u8, permissions: u8) -> bool
     permissions <= x[3 * i + 2]
 }
 
-// Refusal 9.
+// Inner: refusal 9.
 pub fn exclusions_bad(x: &[u8], roles: u8, permissions: u8) -> bool
     ensures { λ r. ⌜ r ≡ exclusionsBad roles permissions (now (x .entry)) ⌝ }
 {

@@ -139,7 +139,7 @@ fn advance_word(
 }
 
 // Inner: the next level's table: what an entry more leads to from each cell of the table t, whose sums are at most `top`;
-// `next` holds 255 throughout, and no cell of it is marked.
+// `next` holds 255 throughout.
 pub fn advance(
     ends: &[u8],
     w: [u8; 8],

@@ -1,5 +1,6 @@
-// A permission's condition by what a cell has: for each sum, each set of roles and each number of entries, the clauses
-// whose conditions on it hold, a bit a clause. A cell meets the condition where some clause is in all three.
+// A permission's condition by what a cell has: for each sum up to `top`, each set of roles below `end` and each number of
+// entries, the clauses whose conditions on it hold, a bit a clause. Other entries mean nothing. A cell meets the condition
+// where some clause is in all three.
 ghost use mathlib.Core.Path.{_≡_};
 ghost use mathlib.Core.Bool.{not};
 ghost use Prim.Native.Nat.{ℕ, _+_, _*_, _≤_, _<_};

@@ -171,7 +171,7 @@ mod tests {
     }
 
     #[test]
-    fn no_base_has_more_conflicts() {
+    fn it_has_2688_conflicts() {
         let list = model::conflicts(&most_conflicts().bytes(), &mut []);
         assert_eq!((list.refusal, list.count), (18, 2_688));
     }

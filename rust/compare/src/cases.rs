@@ -3,7 +3,7 @@
 use model::Base;
 
 use crate::builder::BaseBuilder;
-use crate::damage::{any_damage, crowd, empty_clause, random_bytes};
+use crate::damage::{any_damage, crowd, empty_clause, field_by_field, random_bytes};
 use crate::lively::{full_base, heavy_base, lively_base};
 use crate::questions::*;
 use crate::random::Random;
@@ -79,6 +79,20 @@ fn entries_and_beyond(records: &BaseBuilder) -> Vec<[u8; 2]> {
     users
         .flat_map(|user| (0..=records.roles).map(move |role| [user, role]))
         .collect()
+}
+
+/// Small bases with each field damaged in turn, with questions about the base
+/// before.
+pub fn single_fields(seed: u64, bases: usize, mut attempt: impl FnMut(&[u8], &Asked)) {
+    let mut random = Random::new(seed);
+    for _ in 0..bases {
+        let records = random_base(&mut random, Size::Small);
+        let image = records.image();
+        let base = Base::read(&image.bytes).expect("the base passes");
+        field_by_field(&image, |damaged| {
+            attempt(damaged, &random_question(&mut random, &records, &base));
+        });
+    }
 }
 
 /// Damaged bases, with questions about the base before.

@@ -67,11 +67,13 @@ mod tests {
     #[test]
     fn a_byte_written_to_a_buffer_and_its_inverse_shows_in_one() {
         let lent = Lent::noisy(&mut Random::new(2), 40);
-        for before in [lent.inverted(), lent] {
-            let mut after = before.clone();
-            after.buffer()[0] = 7;
-            let unseen = after.first_difference(&before).is_none();
-            assert_eq!(unseen, before.memory[GUARD] == 7);
+        for written in [lent.memory[GUARD], !lent.memory[GUARD], 7] {
+            let shows = |before: &Lent| {
+                let mut after = before.clone();
+                after.buffer()[0] = written;
+                after.first_difference(before) == Some(0)
+            };
+            assert!(shows(&lent) || shows(&lent.inverted()));
         }
     }
 }

@@ -19,12 +19,7 @@ use twin::worst;
 fn compare_calls(random: &mut Random, base: &[u8], at: Context) {
     assert_eq!(u32::from(twin::check(base)), release::answers::check(base));
     let length = random.pick(&[0, 12, 13, 50, 16 * RECORD, 16 * RECORD + 9]);
-    let mut by_library = Lent::noisy(random, length);
-    let mut by_twin = by_library.clone();
-    let library = release::answers::report(base, library_context(at), by_library.buffer());
-    let twin = twin::report(base, at, by_twin.buffer());
-    assert_eq!((u32::from(twin.refusal), twin.count), numbers(library));
-    assert_eq!(by_twin.first_difference(&by_library), None);
+    compare_report(random, base, at, length);
 
     let whole = 3 * release::answers::conflicts(base, &mut []).count as usize;
     let length = random.pick(&[whole, whole + 7, whole.saturating_sub(1)]);
@@ -34,6 +29,18 @@ fn compare_calls(random: &mut Random, base: &[u8], at: Context) {
     let twin = twin::conflicts(base, by_twin.buffer());
     assert_eq!((u32::from(twin.refusal), twin.count), numbers(library));
     assert_eq!(by_twin.first_difference(&by_library), None);
+}
+
+/// Asserts that the two agree on the report into so many bytes. The library's
+/// refusal.
+fn compare_report(random: &mut Random, base: &[u8], at: Context, length: usize) -> u32 {
+    let mut by_library = Lent::noisy(random, length);
+    let mut by_twin = by_library.clone();
+    let library = release::answers::report(base, library_context(at), by_library.buffer());
+    let twin = twin::report(base, at, by_twin.buffer());
+    assert_eq!((u32::from(twin.refusal), twin.count), numbers(library));
+    assert_eq!(by_twin.first_difference(&by_library), None);
+    library.refusal
 }
 
 fn numbers(answer: release::answers::Answer) -> (u32, u32) {
@@ -93,8 +100,9 @@ fn loose_bytes() {
 #[test]
 fn worst_bases() {
     let mut random = Random::new(83);
-    for (_, plan) in worst::all() {
+    for (name, plan) in worst::all() {
         let at = compare::questions::at_minute(0);
-        compare_calls(&mut random, &plan.bytes(), at);
+        let refusal = compare_report(&mut random, &plan.bytes(), at, 16 * RECORD);
+        assert_eq!(refusal, 0, "{name}");
     }
 }

@@ -18,7 +18,8 @@ pub enum Conflict {
         second: u8,
     },
     /// Kind 2: two policies for permissions that exclude each other, and some
-    /// role is covered by both.
+    /// role is covered by both, whatever their contexts. A policy covers its
+    /// role and, if its type is 1, that role's seniors.
     Permissions {
         /// The first policy's number.
         first: u8,

@@ -60,8 +60,8 @@ pub fn decide(
     decide_bytes(base, permission, context, &bytes)
 }
 
-/// The same for a group as bytes, 2 an entry. They may be any bytes: those
-/// that are no group get [`Refusal::GroupLength`].
+/// The same for a group as bytes, 2 an entry. They may be any bytes of any
+/// length: 0, an odd one or one above 12 gets [`Refusal::GroupLength`].
 ///
 /// ```
 /// use release::example::SMALL_SHOP;

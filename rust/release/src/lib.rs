@@ -70,3 +70,8 @@ pub const LONGEST_BASE: usize = 2_364;
 pub fn check(base: &[u8]) -> Result<(), Refusal> {
     refusal::result_of(answers::check(base))
 }
+
+/// The examples of the README, tried with those of the documentation.
+#[cfg(doctest)]
+#[doc = include_str!("../../../README.md")]
+struct Readme;

@@ -128,10 +128,10 @@ impl Refusal {
             Refusal::Exclusions => {
                 "an exclusion breaks its rules, or its second role or permission isn't there"
             }
-            Refusal::NoPermission => "the permission isn't there",
+            Refusal::NoPermission => "the base has no permission of that number",
             Refusal::Context => "minute, day or zone is out of range",
             Refusal::GroupLength => "the group's length is 0, odd or above 12",
-            Refusal::NoUserOrRole => "an entry's user or role isn't there",
+            Refusal::NoUserOrRole => "the base has no user or no role of an entry's number",
             Refusal::UserTwice => "a user stands in two entries",
             Refusal::Membership => "an entry's user doesn't hold its role",
             Refusal::NoWeight => "an entry's role has weight 0 for the permission",

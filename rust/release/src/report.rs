@@ -158,7 +158,8 @@ pub fn report(base: &[u8], context: Context) -> Result<Report, Refusal> {
 /// permissions some group can release, or the first of refusals 1 to 9, 11 and
 /// 19 that applies. No refusal writes.
 ///
-/// A buffer of [`LONGEST_REPORT`] bytes suffices for every base.
+/// A buffer of [`LONGEST_REPORT`] bytes suffices for every base. For
+/// [`permissions`] fill it with 255 before.
 ///
 /// ```
 /// use release::example::SMALL_SHOP;
@@ -177,7 +178,9 @@ pub fn report_into(base: &[u8], context: Context, buffer: &mut [u8]) -> Result<u
 }
 
 /// The permissions in a report's bytes, 13 each, up to the first 13 bytes that
-/// no report has written: those that start with a number above 6.
+/// no report has written: those that start with a number above 6. So the buffer
+/// has to hold 255 before the report: where nothing was written, a lower byte
+/// would read as a permission.
 ///
 /// ```
 /// use release::example::SMALL_SHOP;

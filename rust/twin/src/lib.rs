@@ -109,6 +109,9 @@ fn fill(base: &Base, at: Context, records: &mut [[u8; RECORD]]) -> u32 {
 /// A smallest group that is granted the permission.
 fn smallest(base: &Base, setting: &Setting, next_ends: &NextEnds, permission: u8) -> Found {
     let w = weights::role_weights(base, setting, permission);
+    if heaviest(w) == 0 {
+        return search::NONE;
+    }
     let top = MOST * heaviest(w);
     match masks(base.clauses, permission, top, sets(w)) {
         Some(masks) => search(Wanted {

@@ -90,7 +90,7 @@ pub fn all() -> [(&'static str, Plan); 11] {
     ]
 }
 
-/// The worst of all: the same policies and four clauses for each permission.
+/// Among the worst: the same policies and four clauses for each permission.
 pub fn spread() -> Plan {
     plan(SPREAD, ROLE_NUMS)
 }

@@ -15,6 +15,7 @@ use crate::seen::{Call, Seen};
 pub fn compare(seen: &mut Seen) {
     sound_bases(12_000, |random, base| compare_base(seen, random, base));
     damaged_bases(seen);
+    single_fields(seen);
     loose_bytes(seen);
 }
 
@@ -77,6 +78,14 @@ fn damaged_bases(seen: &mut Seen) {
             spoil(&mut random, &mut records);
             compare_base(seen, &mut random, &records.bytes());
         }
+    }
+}
+
+fn single_fields(seen: &mut Seen) {
+    let mut random = Random::new(45);
+    for _ in 0..6 {
+        let image = random_base(&mut random, Size::Small).image();
+        field_by_field(&image, |base| compare_base(seen, &mut random, base));
     }
 }
 

@@ -16,6 +16,7 @@ pub fn compare(seen: &mut Seen) {
     valid_bases(34, 4_000, &mut compare);
     every_short_group(35, 200, &mut compare);
     damaged_bases(36, 5_000, &mut compare);
+    single_fields(38, 6, &mut compare);
     loose_bytes(37, 20_000, &mut compare);
 }
 

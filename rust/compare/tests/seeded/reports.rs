@@ -21,6 +21,7 @@ pub fn compare(seen: &mut Seen) {
         compare_sound(seen, random, records)
     });
     damaged_bases(seen);
+    single_fields(seen);
     loose_bytes(seen);
     worst_bases(seen);
 }
@@ -110,6 +111,16 @@ fn damaged_bases(seen: &mut Seen) {
             spoil(&mut random, &mut spoilt);
             compare_damaged(seen, &mut random, &spoilt.bytes(), &records);
         }
+    }
+}
+
+fn single_fields(seen: &mut Seen) {
+    let mut random = Random::new(66);
+    for _ in 0..6 {
+        let records = random_base(&mut random, Size::Small);
+        field_by_field(&records.image(), |base| {
+            compare_damaged(seen, &mut random, base, &records);
+        });
     }
 }
 
