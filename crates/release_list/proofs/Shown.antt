@@ -22,7 +22,7 @@ use Rattle.decision.specs.Groups.{entryCount, entryUser, entryRole}
 use Rattle.decision.specs.Decision.{userCount}
 use Rattle.decision.proofs.Granting.{granted-by}
 use Rattle.report.specs.Smallest.{smallestOf}
-use Rattle.report.specs.Report.{reportRefusal, releasable, partOf, reportBytes, ShownFor}
+use Rattle.report.specs.Report.{reportRefusal, releasable, partBytes, reportBytes, ShownFor}
 use Rattle.report.specs.Demand.{numberFor, groupFor}
 use Rattle.release_list.specs.Text.{lineText, refusalFor}
 use Rattle.release_list.specs.Writing.{Rising, Parts, lineAt, linesText}
@@ -96,7 +96,7 @@ module _ (b : List ℕ) (at : Context) (chosen : ℕ → List ℕ) (ok : reportR
 
   -- the parts in order, and the bytes behind them as they were
   parts-bytes : (out : List ℕ) → length out ≡ 208 →
-      reportBytes b at chosen out ≡ joinBelow (permissionCount b) (λ p. partOf (smallestOf b at p) (chosen p)) ++ drop (13 * permissionCount b) out
+      reportBytes b at chosen out ≡ joinBelow (permissionCount b) (λ p. partBytes (smallestOf b at p) (chosen p)) ++ drop (13 * permissionCount b) out
   unfolding reportBytes
   parts-bytes out e = rw (e, eq-eqb (reportRefusal b at 208) 0 ok)
 

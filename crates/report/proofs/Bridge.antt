@@ -17,9 +17,9 @@ use Rattle.folds.specs.Sets.{inSet, setBelow}
 use Rattle.folds.proofs.Bools.{and-left, and-right, and-both, eqb-sym}
 use Rattle.folds.proofs.Tests.{split}
 use Rattle.folds.proofs.Sets.{in-one, in-or, in-none, in-set, set-lt, same-set, or-assoc}
-use Rattle.decision.specs.Groups.{entryCount, entryUser, entryRole, actedIn, sumOf as groupSum, rolesOf as groupRoles}
+use Rattle.decision.specs.Groups.{entryCount, entryUser, entryRole, actedIn, sumOf, rolesOf}
 use Rattle.decision.specs.Granting.{Granted}
-use Rattle.report.specs.Rising.{Entry, May, sumOf, rolesOf}
+use Rattle.report.specs.Rising.{Entry, May, entriesSum, entriesRoles}
 
 -- the tables stand for who may act in which role, and for the roles' weights
 pub record Tables (U R : ℕ) (may : ℕ → ℕ → Bool) (weigh : ℕ → ℕ) (sets w : List ℕ) : Type 0 where
@@ -86,29 +86,29 @@ first-bytes (e ∷ g) =
 
 -- the sum over the first n entries, by the table and by the weights
 sum-first : (w : List ℕ) (weigh : ℕ → ℕ) (t : List ℕ) (n : ℕ) → ((i : ℕ) → i < n → getD w (entryRole t i) 0 ≡ weigh (entryRole t i))
-    → sumOf w (firstOf t n) ≡ sumBelow n (λ i. weigh (entryRole t i))
+    → entriesSum w (firstOf t n) ≡ sumBelow n (λ i. weigh (entryRole t i))
 unfolding sumBelow
 sum-first w weigh t zero h = refl
 sum-first w weigh t (suc n) h = omega (arith, sum-first w weigh t n (λ i l. h i (omega arith)), h n (omega arith))
 
 -- a role is in the set of the first n entries exactly where one of them acts in it
-in-first : (t : List ℕ) (n r : ℕ) → inSet (rolesOf (firstOf t n)) r ≡ anyBelow n (λ i. eqb (entryRole t i) r)
+in-first : (t : List ℕ) (n r : ℕ) → inSet (entriesRoles (firstOf t n)) r ≡ anyBelow n (λ i. eqb (entryRole t i) r)
 unfolding anyBelow
 in-first t zero r = in-none r
 in-first t (suc n) r =
-    rw (or-comm (2 ^ entryRole t n) (rolesOf (firstOf t n)), in-or (rolesOf (firstOf t n)) (2 ^ entryRole t n) r, in-first t n r, in-one (entryRole t n) r, eqb-sym r (entryRole t n))
+    rw (or-comm (2 ^ entryRole t n) (entriesRoles (firstOf t n)), in-or (entriesRoles (firstOf t n)) (2 ^ entryRole t n) r, in-first t n r, in-one (entryRole t n) r, eqb-sym r (entryRole t n))
 
 -- roles below 8 make a set below 2 ^ 8
-roles-lt : (t : List ℕ) (n : ℕ) → ((i : ℕ) → i < n → entryRole t i < 8) → rolesOf (firstOf t n) < 2 ^ 8
+roles-lt : (t : List ℕ) (n : ℕ) → ((i : ℕ) → i < n → entryRole t i < 8) → entriesRoles (firstOf t n) < 2 ^ 8
 roles-lt t zero h = lit< tt
 roles-lt t (suc n) h =
-    or-lt 8 (2 ^ entryRole t n) (rolesOf (firstOf t n)) (pow-lt (h n (omega arith))) (roles-lt t n (λ i l. h i (omega arith)))
+    or-lt 8 (2 ^ entryRole t n) (entriesRoles (firstOf t n)) (pow-lt (h n (omega arith))) (roles-lt t n (λ i l. h i (omega arith)))
 
 -- the set of all entries, by entries and by roles
-roles-first : (t : List ℕ) → ((i : ℕ) → i < entryCount t → entryRole t i < 8) → rolesOf (firstOf t (entryCount t)) ≡ groupRoles t
-unfolding groupRoles actedIn
+roles-first : (t : List ℕ) → ((i : ℕ) → i < entryCount t → entryRole t i < 8) → entriesRoles (firstOf t (entryCount t)) ≡ rolesOf t
+unfolding rolesOf actedIn
 roles-first t h =
-    same-set 8 (rolesOf (firstOf t (entryCount t))) (setBelow 8 (actedIn t)) (roles-lt t (entryCount t) h) (set-lt (actedIn t) 8)
+    same-set 8 (entriesRoles (firstOf t (entryCount t))) (setBelow 8 (actedIn t)) (roles-lt t (entryCount t) h) (set-lt (actedIn t) 8)
     (λ r l. in-first t (entryCount t) r ∙ sym (in-set (actedIn t) 8 r l))
 
 -- a union of three sets, the first two the other way round
@@ -136,8 +136,8 @@ module _ (sets w : List ℕ) where
   record Sorted (end : ℕ) (g : List Entry) : Type 0 where
     group : List Entry
     same-length : length group ≡ length g
-    same-sum : sumOf w group ≡ sumOf w g
-    same-roles : rolesOf group ≡ rolesOf g
+    same-sum : entriesSum w group ≡ entriesSum w g
+    same-roles : entriesRoles group ≡ entriesRoles g
     falls : Falls sets w end group
     absent : (u : ℕ) → Absent u g → Absent u group
 
@@ -154,7 +154,7 @@ module _ (sets w : List ℕ) where
             group = x ∷ s .group;
             same-length = ap suc (s .same-length);
             same-sum = omega (arith, s .same-sum);
-            same-roles = ap (λ (b : ℕ). bitOr (2 ^ (x .role)) b) (s .same-roles) ∙ or-swap (2 ^ (x .role)) (2 ^ (e .role)) (rolesOf g);
+            same-roles = ap (λ (b : ℕ). bitOr (2 ^ (x .role)) b) (s .same-roles) ∙ or-swap (2 ^ (x .role)) (2 ^ (e .role)) (entriesRoles g);
             falls = (f .0, f .1, s .falls);
             absent = λ u y. (y .1 .0, s .absent u (y .0, y .1 .1));
           }
@@ -196,8 +196,8 @@ module _ {U R : ℕ} {may : ℕ → ℕ → Bool} {weigh : ℕ → ℕ} {sets w 
 
   -- a falling list of entries that meets the condition is a granted group, by rising user
   pub falls-granted : (end : ℕ) (g : List Entry) → 1 ≤ length g → length g ≤ 6 → Falls sets w end g
-      → condition (length g) (sumOf w g) (rolesOf g) ≡ true → Granted U R may weigh condition (bytesBack g)
-  unfolding groupSum
+      → condition (length g) (entriesSum w g) (entriesRoles g) ≡ true → Granted U R may weigh condition (bytesBack g)
+  unfolding sumOf
   falls-granted end g some few f h = record {
     whole = omega (arith, length-bytes g, n);
     some = omega (arith, n);
@@ -223,16 +223,16 @@ module _ {U R : ℕ} {may : ℕ → ℕ → Bool} {weigh : ℕ → ℕ} {sets w 
           → (entryUser (bytesBack g) i < U) × (entryRole (bytesBack g) i < R) × (may (entryUser (bytesBack g) i) (entryRole (bytesBack g) i) ≡ true) × (0 < weigh (entryRole (bytesBack g) i))
       at i l = entry-may (entryAt (bytesBack g) i) (falls-at sets w (bytesBack g) (entryCount (bytesBack g)) end falling i l .1)
 
-      sum : sumOf w (firstOf (bytesBack g) (entryCount (bytesBack g))) ≡ groupSum weigh (bytesBack g)
+      sum : entriesSum w (firstOf (bytesBack g) (entryCount (bytesBack g))) ≡ sumOf weigh (bytesBack g)
       sum = sum-first w weigh (bytesBack g) (entryCount (bytesBack g)) (λ i l. tables .weight (entryRole (bytesBack g) i) (at i l .1))
 
-      roles : rolesOf (firstOf (bytesBack g) (entryCount (bytesBack g))) ≡ groupRoles (bytesBack g)
+      roles : entriesRoles (firstOf (bytesBack g) (entryCount (bytesBack g))) ≡ rolesOf (bytesBack g)
       roles = roles-first (bytesBack g) (λ i l. falls-at sets w (bytesBack g) (entryCount (bytesBack g)) end falling i l .1 .role)
 
   -- every granted list has a falling list of entries with the same number, sum and set
   pub granted-falls : R ≤ 8 → (t : List ℕ) → Granted U R may weigh condition t
-      → (g : List Entry) × (length g ≡ entryCount t) × Falls sets w U g × (sumOf w g ≡ groupSum weigh t) × (rolesOf g ≡ groupRoles t)
-  unfolding groupSum
+      → (g : List Entry) × (length g ≡ entryCount t) × Falls sets w U g × (entriesSum w g ≡ sumOf weigh t) × (entriesRoles g ≡ rolesOf t)
+  unfolding sumOf
   granted-falls small t d =
       let s = sort sets w t U (entryCount t) (d .user) each (d .different) in (
         s .group,

@@ -18,7 +18,7 @@ use Rattle.weights.specs.Contexts.{outOfRange}
 use Rattle.decision.specs.Decision.{decisionOf}
 use Rattle.decision.specs.Groups.{entryCount}
 use Rattle.report.specs.Smallest.{smallest, smallestOf}
-use Rattle.report.specs.Report.{reportRefusal, releasable, reportAnswer, ShownFor, partOf, reportBytes, Reported}
+use Rattle.report.specs.Report.{reportRefusal, releasable, reportAnswer, ShownFor, partBytes, reportBytes, Reported}
 use Rattle.report.specs.Demand.{numberFor, groupFor, userNum, Grantable, Demand3, Demanded}
 use Rattle.report.proofs.Least.{of-decision, smallest-shown, smallest-least}
 use Rattle.report.proofs.Answers.{not-refused}
@@ -49,14 +49,14 @@ module _ (b : List ℕ) (at : Context) where
       let e = not-refused b at (length out) ok in-range fits in
       let shown = d .shown e in
       let rest = drop (13 * permissionCount b) out in
-      let is : after ≡ joinBelow (permissionCount b) (λ p. partOf (smallestOf b at p) (d .chosen p)) ++ rest = d .bytes ∙ rw e in
+      let is : after ≡ joinBelow (permissionCount b) (λ p. partBytes (smallestOf b at p) (d .chosen p)) ++ rest = d .bytes ∙ rw e in
       let answer : r ≡ record { refusal = 0; count = releasable b at } = d .answer ∙ rw e in
       let number : (p : ℕ) → p < permissionCount b → numberFor after p ≡ smallestOf b at p = λ p l. rw is (number-at (smallestOf b at) (d .chosen) (permissionCount b) rest (λ q m. at-most-six b at q) (λ q m. shown q m .number) p l) in
       let group : (p : ℕ) → p < permissionCount b → groupFor after p ≡ d .chosen p = λ p l. rw is (group-at (smallestOf b at) (d .chosen) (permissionCount b) rest (λ q m. at-most-six b at q) (λ q m. shown q m .number) p l) in
       record {
         done = ap (λ (a : Answer). a .refusal) answer;
         carries =
-            let parts = joinBelow (permissionCount b) (λ p. partOf (smallestOf b at p) (d .chosen p)) in
+            let parts = joinBelow (permissionCount b) (λ p. partBytes (smallestOf b at p) (d .chosen p)) in
             let n : length parts ≡ 13 * permissionCount b = done-length b at (d .chosen) (permissionCount b) shown in
             rw (is, length-append parts rest) (omega arith);
         zero = λ p l. rw (number p l) (zero-of p);

@@ -18,7 +18,7 @@ use Rattle.folds.proofs.Numbers.{count-more}
 use Rattle.weights.specs.declared.Context.{Context}
 use Rattle.decision.specs.Decision.{decisionOf}
 use Rattle.report.specs.Smallest.{smallestOf}
-use Rattle.report.specs.Report.{ShownFor, partOf}
+use Rattle.report.specs.Report.{ShownFor, partBytes}
 use Rattle.report.specs.Parts.{PartFor, Filled}
 use Rattle.report.proofs.Least.{smallest-six}
 use Rattle.report.proofs.Standing.{part-length, parts-length}
@@ -28,18 +28,18 @@ module _ (b : List ℕ) (at : Context) where
   unfolding smallestOf
   at-most-six p = smallest-six (λ g. eqb (decisionOf b at p g) 0)
 
-  pub part-13 : (p : ℕ) (g : List ℕ) → ShownFor b at p g → length (partOf (smallestOf b at p) g) ≡ 13
+  pub part-13 : (p : ℕ) (g : List ℕ) → ShownFor b at p g → length (partBytes (smallestOf b at p) g) ≡ 13
   part-13 p g s = part-length (smallestOf b at p) g (at-most-six p) (s .number)
 
   -- the parts of n permissions
   abbrev parts : (ℕ → List ℕ) → ℕ → List ℕ
-  parts chosen n = joinBelow n (λ p. partOf (smallestOf b at p) (chosen p))
+  parts chosen n = joinBelow n (λ p. partBytes (smallestOf b at p) (chosen p))
 
   pub done-length : (chosen : ℕ → List ℕ) (n : ℕ) → ((p : ℕ) → p < n → ShownFor b at p (chosen p)) → length (parts chosen n) ≡ 13 * n
-  done-length chosen n shown = parts-length (λ p. partOf (smallestOf b at p) (chosen p)) n (λ p l. part-13 p (chosen p) (shown p l))
+  done-length chosen n shown = parts-length (λ p. partBytes (smallestOf b at p) (chosen p)) n (λ p l. part-13 p (chosen p) (shown p l))
 
   pub filled-none : (out : List ℕ) → Filled b at 0 out out
-  filled-none out = record { chosen = λ p. []; shown = λ p l. absurd (not-suc-le-zero l); bytes = rw (join-none (λ p. partOf (smallestOf b at p) [])) }
+  filled-none out = record { chosen = λ p. []; shown = λ p l. absurd (not-suc-le-zero l); bytes = rw (join-none (λ p. partBytes (smallestOf b at p) [])) }
 
   -- the groups chosen, with that of one permission more
   abbrev also : (ℕ → List ℕ) → ℕ → List ℕ → ℕ → List ℕ
@@ -69,8 +69,8 @@ module _ (b : List ℕ) (at : Context) where
         let back : drop a out ≡ drop a was = rw (f .bytes) (drop-at done (drop a was) a len) in
         let post : postOf a (e - a) out ≡ drop e was = post-is a e out (omega arith) ∙ sym (drop-drop 13 a out) ∙ ap (λ (l : List ℕ). drop 13 l) back ∙ drop-drop 13 a was in
         let more : parts (also (f .chosen) p (this .group)) (p + 1) ≡ done ++ part =
-        join-more (λ q. partOf (smallestOf b at q) (also (f .chosen) p (this .group) q)) p
-        ∙ rw (also-here (f .chosen) p (this .group) p refl, ← this .bytes) (ap (λ (l : List ℕ). l ++ part) (join-same (λ q. partOf (smallestOf b at q) (also (f .chosen) p (this .group) q)) (λ q. partOf (smallestOf b at q) (f .chosen q)) p (λ q l. ap (λ (x : List ℕ). partOf (smallestOf b at q) x) (also-other (f .chosen) p (this .group) q l)))) in
+        join-more (λ q. partBytes (smallestOf b at q) (also (f .chosen) p (this .group) q)) p
+        ∙ rw (also-here (f .chosen) p (this .group) p refl, ← this .bytes) (ap (λ (l : List ℕ). l ++ part) (join-same (λ q. partBytes (smallestOf b at q) (also (f .chosen) p (this .group) q)) (λ q. partBytes (smallestOf b at q) (f .chosen q)) p (λ q l. ap (λ (x : List ℕ). partBytes (smallestOf b at q) x) (also-other (f .chosen) p (this .group) q l)))) in
         rw (front, post, next, more) (sym (append-assoc done part (drop e was)));
   }
 

@@ -10,7 +10,7 @@ use lib.ListN.{length, getD, set, replicate, length-replicate, replicate-append-
 use lib.Seq.{set-at, append-snoc}
 use Rattle.folds.proofs.Sets.{or-assoc}
 use Rattle.decision.specs.Conditions.{permissionHolds}
-use Rattle.report.specs.Rising.{Entry, May, sumOf, rolesOf, bytesOf}
+use Rattle.report.specs.Rising.{Entry, May, entriesSum, entriesRoles, bytesOf}
 use Rattle.report.specs.Levels.{place, Entered, target, LeadsTo, Sums, Advanced}
 use Rattle.report.specs.Back.{Meeting}
 use Rattle.report.specs.Search.{holdsWith, LeadsOn, Unmet, partFrom, FoundFrom, Stepped, Sought}
@@ -28,13 +28,13 @@ module _ (sets w k : List ℕ) (p n : ℕ) (t : List ℕ) where
   holds-next c e g low =
       let small = joined-lt (c % 256) (e .role) (omega arith) low in
       let a : n + suc (length g) ≡ n + 1 + length g = omega arith in
-      let b : c / 256 + (getD w (e .role) 0 + sumOf w g) ≡ c / 256 + getD w (e .role) 0 + sumOf w g = omega arith in
+      let b : c / 256 + (getD w (e .role) 0 + entriesSum w g) ≡ c / 256 + getD w (e .role) 0 + entriesSum w g = omega arith in
       rw (
         place-set (bitOr (c % 256) (2 ^ (e .role))) (c / 256 + getD w (e .role) 0) small,
         place-sum (bitOr (c % 256) (2 ^ (e .role))) (c / 256 + getD w (e .role) 0) small,
         a,
         b,
-        or-assoc (c % 256) (2 ^ (e .role)) (rolesOf g),
+        or-assoc (c % 256) (2 ^ (e .role)) (entriesRoles g),
       )
 
   -- no cell of this level meets the condition by itself

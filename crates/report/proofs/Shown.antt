@@ -18,12 +18,12 @@ use Rattle.decision.specs.Groups.{entryUser}
 use Rattle.decision.specs.Conditions.{permissionHolds}
 use Rattle.decision.specs.Granting.{Granted}
 use Rattle.report.specs.Smallest.{smallest}
-use Rattle.report.specs.Rising.{Entry, Rises, sumOf, rolesOf, bytesOf}
+use Rattle.report.specs.Rising.{Entry, Rises, entriesSum, entriesRoles, bytesOf}
 use Rattle.report.specs.Levels.{Level}
 use Rattle.report.specs.Marks.{Marked}
 use Rattle.report.specs.Masks.{clausesOf}
 use Rattle.report.specs.Search.{holdsWith, LeadsOn, FoundFrom, Sought}
-use Rattle.report.specs.Report.{partOf}
+use Rattle.report.specs.Report.{partBytes}
 use Rattle.report.proofs.Bridge.{Tables}
 use Rattle.report.proofs.Turned.{rises-rising, rises-granted, granted-rises, bytes-length}
 use Rattle.report.proofs.Masked.{bare}
@@ -77,13 +77,13 @@ pub record Shown (granted : List ℕ → Bool) (part : List ℕ) : Type 0 where
   pub number : length group ≡ 2 * smallest granted
   pub grants : 0 < smallest granted → granted group ≡ true
   pub rising : (i j : ℕ) → i < j → j < smallest granted → entryUser group i < entryUser group j
-  pub bytes : part ≡ partOf (smallest granted) group
+  pub bytes : part ≡ partBytes (smallest granted) group
 
 module _ {U R : ℕ} {may : ℕ → ℕ → Bool} {weigh : ℕ → ℕ} {sets w : List ℕ} (k : List ℕ) (p : ℕ) (tables : Tables U R may weigh sets w)
     (roles : R ≤ 8) (granted : List ℕ → Bool) (of : OfBytes granted) (is : (t : List ℕ) → (granted t ≡ true) ↔ Granted U R may weigh (permissionHolds k p) t) where
   -- the condition on entries that lead on from the empty group
-  holds-empty : (g : List Entry) → holdsWith w k p 0 0 g ≡ permissionHolds k p (length g) (sumOf w g) (rolesOf g)
-  holds-empty g = rw (zero-add (length g), zero-add (sumOf w g), or-zero-l (rolesOf g))
+  holds-empty : (g : List Entry) → holdsWith w k p 0 0 g ≡ permissionHolds k p (length g) (entriesSum w g) (entriesRoles g)
+  holds-empty g = rw (zero-add (length g), zero-add (entriesSum w g), or-zero-l (entriesRoles g))
 
   -- a granted group leads on from the empty group, and meets the condition
   granted-leads : (t : List ℕ) → granted t ≡ true →
@@ -113,7 +113,7 @@ module _ {U R : ℕ} {may : ℕ → ℕ → Bool} {weigh : ℕ → ℕ} {sets w 
       let g = f .group in
       let at : cell ≡ 0 = empty-reached cell (f .leads .small) (f .leads .reached) in
       let rises : Rises sets w 0 g = rw at at (f .leads .rises) in
-      let holds : permissionHolds k p (length g) (sumOf w g) (rolesOf g) ≡ true = sym (holds-empty g) ∙ (rw at at (f .holds)) in
+      let holds : permissionHolds k p (length g) (entriesSum w g) (entriesRoles g) ≡ true = sym (holds-empty g) ∙ (rw at at (f .holds)) in
       let some = f .leads .some in
       let few = f .leads .few in
       let yes : granted (bytesOf g) ≡ true = is (bytesOf g) .1 (rises-granted (permissionHolds k p) tables g (omega arith) (omega arith) rises holds) in

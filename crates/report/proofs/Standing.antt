@@ -8,11 +8,11 @@ use native.Mathlib.Omega.{arith}
 use lib.ListN.{length, getD, take, drop, replicate, length-append, length-replicate}
 use lib.Seq.{take-at, drop-at, drop-drop, getD-drop}
 use Rattle.folds.specs.Below.{joinBelow}
-use Rattle.report.specs.Report.{partOf}
+use Rattle.report.specs.Report.{partBytes}
 use Rattle.report.specs.Demand.{numberFor, groupFor}
 
 -- a part has 13 bytes
-pub part-length : (k : ℕ) (g : List ℕ) → k ≤ 6 → length g ≡ 2 * k → length (partOf k g) ≡ 13
+pub part-length : (k : ℕ) (g : List ℕ) → k ≤ 6 → length g ≡ 2 * k → length (partBytes k g) ≡ 13
 part-length k g few e = rw (length-append, length-replicate, e) (omega arith)
 
 module _ (f : ℕ → List ℕ) where
@@ -35,7 +35,7 @@ module _ (f : ℕ → List ℕ) where
       (eq-or-lt-of-le (le-of-suc-le-suc l)))
 
 -- what the buffer carries for permission p, where part p holds the number k and the group g
-module _ (l : List ℕ) (p k : ℕ) (g tail : List ℕ) (here : drop (13 * p) l ≡ partOf k g ++ tail) where
+module _ (l : List ℕ) (p k : ℕ) (g tail : List ℕ) (here : drop (13 * p) l ≡ partBytes k g ++ tail) where
   pub number-is : numberFor l p ≡ k
   number-is = ap (λ (i : ℕ). getD l i 0) (sym (add-zero (13 * p))) ∙ sym (getD-drop (13 * p) l 0 0) ∙ ap (λ (x : List ℕ). getD x 0 0) here
 
@@ -49,14 +49,14 @@ module _ (l : List ℕ) (p k : ℕ) (g tail : List ℕ) (here : drop (13 * p) l 
 module _ (number : ℕ → ℕ) (group : ℕ → List ℕ) (n : ℕ) (rest : List ℕ)
     (few : (p : ℕ) → p < n → number p ≤ 6) (size : (p : ℕ) → p < n → length (group p) ≡ 2 * number p) where
   abbrev buffer : List ℕ
-  buffer = joinBelow n (λ p. partOf (number p) (group p)) ++ rest
+  buffer = joinBelow n (λ p. partBytes (number p) (group p)) ++ rest
 
   pub number-at : (p : ℕ) → p < n → numberFor buffer p ≡ number p
   number-at p l =
-      let (tail, here) = part-at (λ p. partOf (number p) (group p)) n rest (λ p l. part-length (number p) (group p) (few p l) (size p l)) p l in
+      let (tail, here) = part-at (λ p. partBytes (number p) (group p)) n rest (λ p l. part-length (number p) (group p) (few p l) (size p l)) p l in
       number-is buffer p (number p) (group p) tail here
 
   pub group-at : (p : ℕ) → p < n → groupFor buffer p ≡ group p
   group-at p l =
-      let (tail, here) = part-at (λ p. partOf (number p) (group p)) n rest (λ p l. part-length (number p) (group p) (few p l) (size p l)) p l in
+      let (tail, here) = part-at (λ p. partBytes (number p) (group p)) n rest (λ p l. part-length (number p) (group p) (few p l) (size p l)) p l in
       group-is buffer p (number p) (group p) tail here (size p l)

@@ -8,9 +8,9 @@ use native.Mathlib.Nat.{le-refl, le-trans, lt-of-lt-of-le, add-zero}
 use lib.ListN.{length, getD}
 use lib.Bits.{bitOr, or-comm, or-zero-l, or-zero-r}
 use Rattle.folds.proofs.Sets.{or-assoc}
-use Rattle.decision.specs.Groups.{entryCount, entryUser, sumOf as groupSum, rolesOf as groupRoles}
+use Rattle.decision.specs.Groups.{entryCount, entryUser, sumOf, rolesOf}
 use Rattle.decision.specs.Granting.{Granted}
-use Rattle.report.specs.Rising.{Entry, May, Rises, sumOf, rolesOf, bytesOf}
+use Rattle.report.specs.Rising.{Entry, May, Rises, entriesSum, entriesRoles, bytesOf}
 use Rattle.report.proofs.Bridge.{Tables, Falls, bytesBack, falls-rising, falls-granted, granted-falls}
 
 -- the entries of g, turned round, before those of h
@@ -23,14 +23,14 @@ turned-length : (g h : List Entry) → length (turned g h) ≡ length g + length
 turned-length [] h = omega arith
 turned-length (e ∷ g) h = let a = turned-length g (e ∷ h) in omega arith
 
-turned-sum : (w : List ℕ) (g h : List Entry) → sumOf w (turned g h) ≡ sumOf w g + sumOf w h
+turned-sum : (w : List ℕ) (g h : List Entry) → entriesSum w (turned g h) ≡ entriesSum w g + entriesSum w h
 turned-sum w [] h = omega arith
 turned-sum w (e ∷ g) h = let a = turned-sum w g (e ∷ h) in omega arith
 
-turned-roles : (g h : List Entry) → rolesOf (turned g h) ≡ bitOr (rolesOf g) (rolesOf h)
-turned-roles [] h = sym (or-zero-l (rolesOf h))
+turned-roles : (g h : List Entry) → entriesRoles (turned g h) ≡ bitOr (entriesRoles g) (entriesRoles h)
+turned-roles [] h = sym (or-zero-l (entriesRoles h))
 turned-roles (e ∷ g) h =
-    turned-roles g (e ∷ h) ∙ sym (or-assoc (rolesOf g) (2 ^ (e .role)) (rolesOf h)) ∙ ap (λ (x : ℕ). bitOr x (rolesOf h)) (or-comm (rolesOf g) (2 ^ (e .role)))
+    turned-roles g (e ∷ h) ∙ sym (or-assoc (entriesRoles g) (2 ^ (e .role)) (entriesRoles h)) ∙ ap (λ (x : ℕ). bitOr x (entriesRoles h)) (or-comm (entriesRoles g) (2 ^ (e .role)))
 
 -- and so do the bytes, read the other way
 turned-bytes : (g h : List Entry) → bytesBack (turned g h) ≡ bytesBack h ++ bytesOf g
@@ -73,22 +73,22 @@ module _ (sets w : List ℕ) where
 module _ {U R : ℕ} {may : ℕ → ℕ → Bool} {weigh : ℕ → ℕ} {sets w : List ℕ} (condition : ℕ → ℕ → ℕ → Bool) (tables : Tables U R may weigh sets w) where
   -- a rising list of entries that meets the condition is a granted group
   pub rises-granted : (g : List Entry) → 1 ≤ length g → length g ≤ 6 → Rises sets w 0 g
-      → condition (length g) (sumOf w g) (rolesOf g) ≡ true → Granted U R may weigh condition (bytesOf g)
+      → condition (length g) (entriesSum w g) (entriesRoles g) ≡ true → Granted U R may weigh condition (bytesOf g)
   rises-granted g some few r h =
       let (end, f) = rises-falls sets w 0 g [] r tt in
       let n : length (turned g []) ≡ length g = turned-length g [] ∙ add-zero (length g) in
-      let s : sumOf w (turned g []) ≡ sumOf w g = turned-sum w g [] ∙ add-zero (sumOf w g) in
-      let q : rolesOf (turned g []) ≡ rolesOf g = turned-roles g [] ∙ or-zero-r (rolesOf g) in
+      let s : entriesSum w (turned g []) ≡ entriesSum w g = turned-sum w g [] ∙ add-zero (entriesSum w g) in
+      let q : entriesRoles (turned g []) ≡ entriesRoles g = turned-roles g [] ∙ or-zero-r (entriesRoles g) in
       rw (turned-bytes g []) at (falls-granted condition tables end (turned g []) (rw n some) (rw n few) f (rw (n, s, q) h))
 
   -- every granted list has a rising list of entries with the same number, sum and set
   pub granted-rises : R ≤ 8 → (t : List ℕ) → Granted U R may weigh condition t
-      → (g : List Entry) × (length g ≡ entryCount t) × Rises sets w 0 g × (condition (length g) (sumOf w g) (rolesOf g) ≡ true)
+      → (g : List Entry) × (length g ≡ entryCount t) × Rises sets w 0 g × (condition (length g) (entriesSum w g) (entriesRoles g) ≡ true)
   granted-rises small t d =
       let (g, n, f, s, q) = granted-falls condition tables small t d in
       let k : length (turned g []) ≡ entryCount t = turned-length g [] ∙ add-zero (length g) ∙ n in (
         turned g [],
         k,
         falls-rises sets w U g [] f tt,
-        rw (k, turned-sum w g [] ∙ add-zero (sumOf w g) ∙ s, turned-roles g [] ∙ or-zero-r (rolesOf g) ∙ q) (d .holds),
+        rw (k, turned-sum w g [] ∙ add-zero (entriesSum w g) ∙ s, turned-roles g [] ∙ or-zero-r (entriesRoles g) ∙ q) (d .holds),
       )

@@ -8,7 +8,7 @@ use Rattle.folds.specs.Sets.{setBelow}
 use Rattle.weights.specs.declared.Context.{Context}
 use Rattle.weights.specs.Acting.{mayAct}
 use Rattle.report.specs.Smallest.{smallestOf}
-use Rattle.report.specs.Report.{ShownFor, partOf}
+use Rattle.report.specs.Report.{ShownFor, partBytes}
 
 -- for each of 24 users the set of the roles that the user may act in; empty for users that aren't there
 pub record ActingSets (b sets : List ℕ) : Type 0 where
@@ -29,10 +29,10 @@ pub record RolesEnd (w : List ℕ) (d : ℕ) : Type 0 where
 pub record PartFor (b : List ℕ) (at : Context) (p : ℕ) (part : List ℕ) : Type 0 where
   pub group : List ℕ
   pub shown : ShownFor b at p group
-  pub bytes : part ≡ partOf (smallestOf b at p) group
+  pub bytes : part ≡ partBytes (smallestOf b at p) group
 
 -- the parts of the permissions below n stand in the buffer that held `out`; the bytes behind them are as they were
 pub record Filled (b : List ℕ) (at : Context) (n : ℕ) (out after : List ℕ) : Type 0 where
   pub chosen : ℕ → List ℕ
   pub shown : (p : ℕ) → p < n → ShownFor b at p (chosen p)
-  pub bytes : after ≡ joinBelow n (λ p. partOf (smallestOf b at p) (chosen p)) ++ drop (13 * n) out
+  pub bytes : after ≡ joinBelow n (λ p. partBytes (smallestOf b at p) (chosen p)) ++ drop (13 * n) out

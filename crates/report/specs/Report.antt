@@ -38,14 +38,14 @@ pub record ShownFor (b : List ℕ) (at : Context) (p : ℕ) (g : List ℕ) : Typ
   pub rising : (i j : ℕ) → i < j → j < smallestOf b at p → entryUser g i < entryUser g j
 
 -- a permission's 13 bytes: the number k of approvers, k entries, and 255 in every byte left
-abbrev pub partOf : ℕ → List ℕ → List ℕ
-partOf k g = k ∷ (g ++ replicate (12 - 2 * k) 255)
+abbrev pub partBytes : ℕ → List ℕ → List ℕ
+partBytes k g = k ∷ (g ++ replicate (12 - 2 * k) 255)
 
 -- the buffer afterwards, with the group chosen for each permission: the parts in order, and the bytes behind them as they were; no refusal writes
 unfoldable pub reportBytes : List ℕ → Context → (ℕ → List ℕ) → List ℕ → List ℕ
 reportBytes b at chosen out =
     cond (eqb (reportRefusal b at (length out)) 0)
-    (joinBelow (permissionCount b) (λ p. partOf (smallestOf b at p) (chosen p)) ++ drop (13 * permissionCount b) out)
+    (joinBelow (permissionCount b) (λ p. partBytes (smallestOf b at p) (chosen p)) ++ drop (13 * permissionCount b) out)
     out
 
 -- the promise of the report: the answer r, and `after` the buffer that held `out`; the choice of group is free

@@ -24,14 +24,14 @@ Rises sets w from [] = Unit {0}
 Rises sets w from (e ∷ g) = (from ≤ e .user) × May sets w e × Rises sets w (e .user + 1) g
 
 -- the sum of the roles' weights
-abbrev pub sumOf : List ℕ → List Entry → ℕ
-sumOf w [] = 0
-sumOf w (e ∷ g) = getD w (e .role) 0 + sumOf w g
+abbrev pub entriesSum : List ℕ → List Entry → ℕ
+entriesSum w [] = 0
+entriesSum w (e ∷ g) = getD w (e .role) 0 + entriesSum w g
 
 -- the set of the roles acted in
-abbrev pub rolesOf : List Entry → ℕ
-rolesOf [] = 0
-rolesOf (e ∷ g) = bitOr (2 ^ (e .role)) (rolesOf g)
+abbrev pub entriesRoles : List Entry → ℕ
+entriesRoles [] = 0
+entriesRoles (e ∷ g) = bitOr (2 ^ (e .role)) (entriesRoles g)
 
 -- the bytes of the group
 abbrev pub bytesOf : List Entry → List ℕ

@@ -9,7 +9,7 @@ use Rattle.decision.specs.Conditions.{permissionHolds}
 use Rattle.report.specs.Levels.{NextEnds, LeadsTo, Level}
 use Rattle.report.specs.Marks.{Marked}
 use Rattle.report.specs.Masks.{Masks}
-use Rattle.report.specs.Rising.{Entry, Rises, sumOf, rolesOf, bytesOf}
+use Rattle.report.specs.Rising.{Entry, Rises, entriesSum, entriesRoles, bytesOf}
 
 -- what the search starts from: users and their next ends, no role heavier than `heavy`, a permission's masks, and a table of n entries
 -- placed with sums up to `top` and its marks
@@ -33,7 +33,7 @@ pub record Asked (w k : List ℕ) (p heavy : ℕ) (masks t : List ℕ) : Type 0 
 
 -- the condition holds of the n entries placed that a cell stands for, and the entries g behind them
 abbrev pub holdsWith : List ℕ → List ℕ → ℕ → ℕ → ℕ → List Entry → Bool
-holdsWith w k p n cell g = permissionHolds k p (n + length g) (cell / 256 + sumOf w g) (bitOr (cell % 256) (rolesOf g))
+holdsWith w k p n cell g = permissionHolds k p (n + length g) (cell / 256 + entriesSum w g) (bitOr (cell % 256) (entriesRoles g))
 
 -- the entries g lead on from a reached cell of a table with n entries placed, to a group of 1 to 6 entries
 pub record LeadsOn (sets w : List ℕ) (n : ℕ) (t : List ℕ) (cell : ℕ) (g : List Entry) : Type 0 where
