@@ -48,7 +48,9 @@ pub fn decide_checked(base: &[u8], permission: u8, s: Fixed, group: &[u8]) -> u8
     if groups::some_ineligible(group, users, roles) {
         return 15;
     }
-    let w = weights::role_weights(base, s, permission);
+    let chosen = weights::chosen(base, s);
+    let juniors = s.juniors;
+    let w = weights::role_weights(&chosen.own, &chosen.inh, juniors, permission);
     if groups::some_weightless(group, w) {
         return 16;
     }

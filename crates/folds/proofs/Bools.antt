@@ -1,5 +1,5 @@
 -- Facts on Bools that the laws of the folds and their callers share.
-use mathlib.Core.Bool.{Bool, true, false, _&&_, _||_, not, false≢true}
+use mathlib.Core.Bool.{Bool, true, false, _&&_, _||_, not, cond, false≢true}
 use mathlib.Core.Path.{_≡_, refl, sym}
 use mathlib.Core.Logic.{_⊎_, inl, inr, ⊎-elim}
 use Prim.Native.Nat.{ℕ}
@@ -41,6 +41,13 @@ met-or-not false = inr refl
 pub clash : {A : Type 0} (a : Bool) → a ≡ true → a ≡ false → A
 clash true h k = absurd (false≢true (sym k))
 clash false h k = absurd (false≢true h)
+
+-- a choice by a test that is met, and by one that is not
+pub met : {t : Bool} {x : ℕ} (y : ℕ) → t ≡ true → x ≡ cond t x y
+met y h = rw h
+
+pub passed : {t : Bool} (x : ℕ) {y : ℕ} → t ≡ false → cond t x y ≡ y
+passed x h = rw h
 
 -- two tests that are met together are one
 pub same-test : (a b : Bool) → (a ≡ true → b ≡ true) → (b ≡ true → a ≡ true) → a ≡ b

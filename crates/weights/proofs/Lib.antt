@@ -4,3 +4,4 @@ pub mod Choice
 pub mod Known
 pub mod Steps
 pub mod Weigh
+pub mod Ranges

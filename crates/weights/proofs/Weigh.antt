@@ -1,5 +1,5 @@
 -- The weights of all roles: what the pass over A and the juniors' sets give is the paper's weight; its bounds.
-use Prim.Native.Nat.{ℕ, zero, suc, _+_, _*_, _<_, _≤_}
+use Prim.Native.Nat.{ℕ, zero, suc, _+_, _*_, _/_, _%_, _<_, _≤_}
 use mathlib.Core.Bool.{Bool, true, false, not, cond}
 use mathlib.Core.Path.{_≡_, ap, ap₂, _∙_}
 use mathlib.Core.Logic.{⊎-elim, _↔_}
@@ -26,9 +26,15 @@ use Rattle.weights.specs.declared.ChosenWeights.{ChosenWeights}
 use Rattle.weights.specs.Contexts.{contextHolds}
 use Rattle.weights.specs.Seniority.{Chain, seniorTo}
 use Rattle.weights.specs.Weights.{chosenWeight, anyType, typeOne, own, inh, share, weight}
-use Rattle.weights.specs.Setting.{FixedBy, inForceBy, AreChosen, Summed, handedOn, AreWeights}
+use Rattle.weights.specs.Setting.{Juniors, FixedBy, inForceBy, Placed, AreChosen, Light, ChosenBy, AreWeights}
+use Rattle.weights.specs.Setting.{given, Summed}
 use Rattle.weights.proofs.Chains.{senior-down, senior-chain}
 use Rattle.weights.proofs.Choice.{chosen-same, chosen-le, chosen-zero}
+
+-- a weight that is given or not is at most 5 where it is
+pub given-le : (t : Bool) {x : ℕ} → x ≤ 5 → cond t x 0 ≤ 5
+given-le true h = h
+given-le false h = omega arith
 
 -- a table A that passed the check passes it with more roles and permissions
 pub policies-wider : (R P S Q : ℕ) (a : List ℕ) → R ≤ S → P ≤ Q → policiesBad R P a ≡ false → policiesBad S Q a ≡ false
@@ -37,22 +43,31 @@ policies-wider R P S Q a r p fine =
     any-each (policyBad S Q a) (recordCount policies a)
     (λ i m. let f = policy-fine R P a i fine m in
     rw (lt-ltb _ _ (lt-of-lt-of-le (f .role) r), lt-ltb _ _ (lt-of-lt-of-le (f .permission) p))
-    (or-right (not (ltb (policyPermission a i) P)) _ (or-right (not (ltb (policyRole a i) R)) _ (any-at (policyBad R P a) _ fine i m))))
+    (or-right (not (ltb (policyPermission a i) P)) _
+    (or-right (not (ltb (policyRole a i) R)) _ (any-at (policyBad R P a) _ fine i m))))
 
 module _ (b : List ℕ) (ok : refusalOf b ≡ 0) where
   small : roleCount b ≤ 8
   small = roles-range b (accepted b ok .frame) .1
 
+  pub policies-small : policiesBad 8 16 (tableOf b policies) ≡ false
+  policies-small =
+      let few = permissions-le b (accepted b ok .frame) in
+      policies-wider _ _ 8 16 (tableOf b policies) small few (accepted b ok .policies)
+
   pub policies-fine : policiesBad 8 256 (tableOf b policies) ≡ false
-  policies-fine =
-      policies-wider _ _ 8 256 (tableOf b policies) small (let h = permissions-le b (accepted b ok .frame) in omega arith) (accepted b ok .policies)
+  policies-fine = policies-wider 8 16 8 256 (tableOf b policies) (omega arith) (omega arith) policies-small
 
   -- no policy that counts weighs more than 5
-  pub chosen-five : (inForce f : ℕ → Bool) (p r : ℕ) → chosenWeight inForce f (tableOf b policies) (recordCount policies (tableOf b policies)) r p ≤ 5
-  chosen-five inForce f p r = chosen-le inForce f (tableOf b policies) r p 5 _ (λ i l. policy-fine 8 256 (tableOf b policies) i policies-fine l .weight-le)
+  pub chosen-five : (inForce f : ℕ → Bool) (p r : ℕ) →
+      chosenWeight inForce f (tableOf b policies) (recordCount policies (tableOf b policies)) r p ≤ 5
+  chosen-five inForce f p r =
+      chosen-le inForce f (tableOf b policies) r p 5 _
+      (λ i l. policy-fine 8 16 (tableOf b policies) i policies-small l .weight-le)
 
   -- there is no policy of a role at R or above
-  pub chosen-high : (inForce f : ℕ → Bool) (p r : ℕ) → roleCount b ≤ r → chosenWeight inForce f (tableOf b policies) (recordCount policies (tableOf b policies)) r p ≡ 0
+  pub chosen-high : (inForce f : ℕ → Bool) (p r : ℕ) → roleCount b ≤ r →
+      chosenWeight inForce f (tableOf b policies) (recordCount policies (tableOf b policies)) r p ≡ 0
   chosen-high inForce f p r h =
       chosen-zero inForce f (tableOf b policies) r p _
       (λ i l. let g = policy-fine _ _ (tableOf b policies) i (accepted b ok .policies) l .role in
@@ -67,33 +82,34 @@ module _ (b : List ℕ) (ok : refusalOf b ≡ 0) where
     unfolding inh
     inh-le r = chosen-five (contextHolds at (tableOf b contexts)) typeOne p r
 
-    share-le : (r j : ℕ) → share b at p r j ≤ 5
-    share-le r j = by (seniorTo (tableOf b hierarchy) r j)
-      where
-        by : (t : Bool) → cond t (inh b at j p) 0 ≤ 5
-        by true = inh-le j
-        by false = omega arith
-
     -- nothing comes from a role that isn't a junior: r itself, one with a smaller number, one at R or above
     pub share-none : (r j : ℕ) → (r < j → j < roleCount b → ⊥) → share b at p r j ≡ 0
     share-none r j h =
-        ⊎-elim (λ e. let d = senior-down (roleCount b) (tableOf b hierarchy) small (accepted b ok .hierarchy) r j e in absurd (h (d .0) (d .1)))
+        ⊎-elim
+        (λ e. let d = senior-down (roleCount b) (tableOf b hierarchy) small (accepted b ok .hierarchy) r j e in
+        absurd (h (d .0) (d .1)))
         (λ e. rw e) (met-or-not (seniorTo (tableOf b hierarchy) r j))
 
     -- a role hands nothing on to itself
     pub self-none : (r : ℕ) → share b at p r r ≡ 0
     self-none r = share-none r r (λ l k. lt-irrefl r l)
 
+    share-le : (r j : ℕ) → share b at p r j ≤ 5
+    share-le r j = given-le (seniorTo (tableOf b hierarchy) r j) (inh-le j)
+
     -- role 0 is nobody's junior, so at most seven shares come together
     shares-le : (r n : ℕ) → n ≤ 8 → sumBelow n (share b at p r) ≤ 35
     shares-le r zero h = rw (sum-none (share b at p r)) (omega arith)
     shares-le r (suc n) h =
-        let l : sumBelow n (λ i. share b at p r (1 + i)) ≤ n * 5 = sum-le (λ i. share b at p r (1 + i)) 5 n (λ i l. share-le r (1 + i)) in
-        rw (← one-add n, sum-split (share b at p r) 1 n, sum-one (share b at p r), share-none r 0 (λ l k. absurd (not-suc-le-zero l))) (omega arith)
+        let later : ℕ → ℕ = λ i. share b at p r (1 + i) in
+        let l : sumBelow n later ≤ n * 5 = sum-le later 5 n (λ i l. share-le r (1 + i)) in
+        let none = share-none r 0 (λ l k. absurd (not-suc-le-zero l)) in
+        rw (← one-add n, sum-split (share b at p r) 1 n, sum-one (share b at p r), none) (omega arith)
 
     -- each junior counts once: its share, and those of the others
     pub weight-once : (r j : ℕ) → Chain (tableOf b hierarchy) r j →
-        weight b at r p ≡ own b at r p + (inh b at j p + sumBelow (roleCount b) (λ k. cond (eqb k j) 0 (share b at p r k)))
+        weight b at r p
+        ≡ own b at r p + (inh b at j p + sumBelow (roleCount b) (λ k. cond (eqb k j) 0 (share b at p r k)))
     unfolding weight
     weight-once r j c =
         let e = senior-chain (roleCount b) (tableOf b hierarchy) small (accepted b ok .hierarchy) r j .1 c in
@@ -111,7 +127,8 @@ module _ (b : List ℕ) (ok : refusalOf b ≡ 0) where
       where
         none : (j : ℕ) → share b at p r j ≡ 0
         none j =
-            ⊎-elim (λ e. absurd (h j (senior-chain (roleCount b) (tableOf b hierarchy) small (accepted b ok .hierarchy) r j .0 e)))
+            ⊎-elim
+            (λ e. absurd (h j (senior-chain (roleCount b) (tableOf b hierarchy) small (accepted b ok .hierarchy) r j .0 e)))
             (λ e. rw e) (met-or-not (seniorTo (tableOf b hierarchy) r j))
 
     -- a weight is at most 40
@@ -123,38 +140,79 @@ module _ (b : List ℕ) (ok : refusalOf b ≡ 0) where
     pub weight-high : (r : ℕ) → roleCount b ≤ r → weight b at r p ≡ 0
     unfolding weight own
     weight-high r h =
-        rw (chosen-high (contextHolds at (tableOf b contexts)) anyType p r h, sum-zero (share b at p r) (roleCount b) (λ j l. share-none r j (λ a c. omega arith)))
+        let none = sum-zero (share b at p r) (roleCount b) (λ j l. share-none r j (λ a c. omega arith)) in
+        rw (chosen-high (contextHolds at (tableOf b contexts)) anyType p r h, none)
 
--- the pass over A and the juniors' sets give the weights
-pub weigh : (b : List ℕ) (ok : refusalOf b ≡ 0) (s : Fixed) (p : ℕ) (f : ChosenWeights) (w : List ℕ) → FixedBy b s →
-    AreChosen (s .contexts) (tableOf b policies) (recordCount policies (tableOf b policies)) p f → Summed f (s .juniors) w → AreWeights b (s .at) p w
-unfolding weight own inh contextHolds
-weigh b ok s p f w fixed first sum =
-    record { role = λ r l. sum .role r l ∙ ap₂ (λ (x y : ℕ). x + y) (first .own r l ∙ same anyType r) (shares r l) }
+-- what stands at the places is at most 5, where that holds of each role and permission
+placed-light : {f : ℕ → ℕ → ℕ} {v : List ℕ} → Placed f v → ((r p : ℕ) → f r p ≤ 5) → Light v
+placed-light {v = v} at le i l =
+    let e : 8 * (i / 8) + i % 8 ≡ i = omega arith in
+    let h : getD v (8 * (i / 8) + i % 8) 0 ≤ 5 = rw (at .place (i % 8) (i / 8) (omega arith) (omega arith)) (le _ _) in
+    rw e at h
+
+-- the pass over A gives what the base has
+module _ (b : List ℕ) (ok : refusalOf b ≡ 0) (s : Fixed) (fixed : FixedBy b s) where
+  abbrev a : List ℕ
+  a = tableOf b policies
+
+  abbrev holds : ℕ → Bool
+  holds = contextHolds (s .at) (tableOf b contexts)
+
+  agrees : (i : ℕ) → i < recordCount policies a →
+      inForceBy (s .contexts) (policyContext a i) ≡ holds (policyContext a i)
+  unfolding contextHolds
+  agrees i l =
+      ⊎-elim (λ k. numbered k (ne-eqb (policyContext a i) 255 (λ q. omega arith))) (λ e. rw e)
+      (policy-fine 8 16 a i (policies-small b ok) l .context)
+    where
+      numbered : policyContext a i ≤ 15 → eqb (policyContext a i) 255 ≡ false →
+          inForceBy (s .contexts) (policyContext a i) ≡ holds (policyContext a i)
+      numbered k e = rw e (rw e at (fixed .holding .number (policyContext a i) k))
+
+  same : (o : ℕ → Bool) (r p : ℕ) →
+      chosenWeight (inForceBy (s .contexts)) o a (recordCount policies a) r p
+      ≡ chosenWeight holds o a (recordCount policies a) r p
+  same o r p = chosen-same (inForceBy (s .contexts)) holds o a r p _ agrees
+
+  pub chosen-by : (f : ChosenWeights) → AreChosen (s .contexts) a (recordCount policies a) f →
+      ChosenBy b (s .at) (f .own) (f .inh)
+  unfolding own inh
+  chosen-by f are =
+      let owns : Placed (own b (s .at)) (f .own) =
+      record { place = λ r p l m. are .any .place r p l m ∙ same anyType r p } in
+      let inhs : Placed (inh b (s .at)) (f .inh) =
+      record { place = λ r p l m. are .one .place r p l m ∙ same typeOne r p } in
+      record {
+        own-at = owns;
+        inh-at = inhs;
+        own-light = placed-light owns (λ r p. own-le b ok (s .at) p r);
+        inh-light = placed-light inhs (λ r p. inh-le b ok (s .at) p r);
+      }
+
+-- own weights and what juniors hand on are the weights
+pub weigh : (b : List ℕ) (at : Context) → refusalOf b ≡ 0 → (p : ℕ) {owns inhs juniors w : List ℕ} → p < 16 →
+    ChosenBy b at owns inhs → Juniors (tableOf b hierarchy) juniors → Summed owns inhs juniors p 8 w →
+    AreWeights b at p w
+unfolding weight
+weigh b at ok p {owns} {inhs} {juniors} there chosen below sum =
+    record { role = λ r l. sum .role r l ∙ ap₂ (λ (x y : ℕ). x + y) (chosen .own-at .place r p l there) (shares r l) }
   where
-    agrees : (i : ℕ) → i < recordCount policies (tableOf b policies) →
-        inForceBy (s .contexts) (policyContext (tableOf b policies) i) ≡ contextHolds (s .at) (tableOf b contexts) (policyContext (tableOf b policies) i)
-    agrees i l =
-        ⊎-elim
-        (λ k. rw (ne-eqb (policyContext (tableOf b policies) i) 255 (λ q. omega arith)) (rw (ne-eqb (policyContext (tableOf b policies) i) 255 (λ q. omega arith)) at (fixed .holding .number (policyContext (tableOf b policies) i) k)))
-        (λ e. rw e) (policy-fine 8 256 (tableOf b policies) i (policies-fine b ok) l .context)
-
-    same : (o : ℕ → Bool) (r : ℕ) → chosenWeight (inForceBy (s .contexts)) o (tableOf b policies) (recordCount policies (tableOf b policies)) r p
-        ≡ chosenWeight (contextHolds (s .at) (tableOf b contexts)) o (tableOf b policies) (recordCount policies (tableOf b policies)) r p
-    same o r = chosen-same (inForceBy (s .contexts)) (contextHolds (s .at) (tableOf b contexts)) o (tableOf b policies) r p _ agrees
-
-    shares : (r : ℕ) → r < 8 → handedOn (f .inh) (getD (s .juniors) r 0) ≡ sumBelow (roleCount b) (share b (s .at) p r)
+    shares : (r : ℕ) → r < 8 →
+        sumBelow 8 (λ j. given (getD juniors r 0) j (getD inhs (8 * p + j) 0)) ≡ sumBelow (roleCount b) (share b at p r)
     shares r l =
-        sum-same (λ j. cond (inSet (getD (s .juniors) r 0) j) (getD (f .inh) j 0) 0) (share b (s .at) p r) 8
-        (λ j m. rw (fixed .juniors .role r j l, first .inh j m ∙ same typeOne j))
-        ∙ sum-tail (share b (s .at) p r) (roleCount b) 8 (small b ok) (λ j m n. share-none b ok (s .at) p r j (λ x y. omega arith))
+        sum-same (λ j. given (getD juniors r 0) j (getD inhs (8 * p + j) 0)) (share b at p r) 8
+        (λ j m. rw (below .role r j l, chosen .inh-at .place j p m there))
+        ∙ sum-tail (share b at p r) (roleCount b) 8 (small b ok)
+        (λ j m n. share-none b ok at p r j (λ x y. omega arith))
 
 -- the law of seniority at the bytes: bit j of role r's byte exactly when a chain of H records leads from r to j
 pub junior-bit : (b : List ℕ) (ok : refusalOf b ≡ 0) (s : Fixed) → FixedBy b s → (r j : ℕ) → r < 8 →
     (inSet (getD (s .juniors) r 0) j ≡ true) ↔ Chain (tableOf b hierarchy) r j
 junior-bit b ok s fixed r j l =
-    rw (fixed .juniors .role r j l) (senior-chain (roleCount b) (tableOf b hierarchy) (small b ok) (accepted b ok .hierarchy) r j)
+    rw (fixed .juniors .role r j l)
+    (senior-chain (roleCount b) (tableOf b hierarchy) (small b ok) (accepted b ok .hierarchy) r j)
 
 -- the weights handed on are at most 40
-pub weights-le : (b : List ℕ) → refusalOf b ≡ 0 → (at : Context) (p : ℕ) (w : List ℕ) → AreWeights b at p w → (r : ℕ) → r < 8 → getD w r 0 ≤ 40
+pub weights-le : (b : List ℕ) → refusalOf b ≡ 0 → (at : Context) (p : ℕ) (w : List ℕ) → AreWeights b at p w →
+    (r : ℕ) → r < 8 → getD w r 0 ≤ 40
 weights-le b ok at p w are r l = rw (are .role r l) (weight-le b ok at p r)

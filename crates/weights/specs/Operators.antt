@@ -1,6 +1,7 @@
 -- Operators, shared by the conditions of contexts and groups.
-use Prim.Native.Nat.{ℕ}
-use mathlib.Core.Bool.{Bool, false, not, cond}
+use Prim.Native.Nat.{ℕ, _≤_, _<_}
+use mathlib.Core.Bool.{Bool, false, _&&_, not, cond}
+use mathlib.Core.Path.{_≡_}
 use lib.Dec.{ltb, leb, eqb}
 use Rattle.folds.specs.Sets.{contains}
 
@@ -14,3 +15,9 @@ meets o x v =
     (cond (eqb o 4) (eqb x v)
     (cond (eqb o 5) (not (eqb x v))
     (cond (eqb o 6) (contains x v) false))))))
+
+-- the numbers below 256 from `low` to before `end` but for `but` are those that stand to v as operator o says
+pub record RangeOf (o v low end but : ℕ) : Type 0 where
+  pub low-le : low ≤ 256
+  pub end-le : end ≤ 256
+  pub met : o ≤ 5 → (x : ℕ) → x < 256 → meets o x v ≡ (leb low x && (ltb x end && not (eqb x but)))

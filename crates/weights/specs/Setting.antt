@@ -1,9 +1,9 @@
 -- What the functions of this layer hand on: the setting of a base and a context, and the weights of all roles.
-use Prim.Native.Nat.{ℕ, _+_, _≤_, _<_}
+use Prim.Native.Nat.{ℕ, _+_, _*_, _≤_, _<_}
 use mathlib.Core.Bool.{Bool, true, cond, _&&_, _||_}
 use mathlib.Core.Path.{_≡_}
 use mathlib.Core.List.{List}
-use lib.ListN.{getD}
+use lib.ListN.{length, getD}
 use lib.Dec.{eqb}
 use Rattle.folds.specs.Below.{sumBelow}
 use Rattle.folds.specs.Sets.{inSet}
@@ -14,7 +14,7 @@ use Rattle.weights.specs.declared.Fixed.{Fixed}
 use Rattle.weights.specs.declared.ChosenWeights.{ChosenWeights}
 use Rattle.weights.specs.Contexts.{contextHolds}
 use Rattle.weights.specs.Seniority.{seniorTo}
-use Rattle.weights.specs.Weights.{chosenWeight, anyType, typeOne, weight}
+use Rattle.weights.specs.Weights.{chosenWeight, anyType, typeOne, own, inh, weight}
 
 -- the set s has the context numbers 0 to 15 that hold by the table C
 pub record Holding (at : Context) (c : List ℕ) (s : ℕ) : Type 0 where
@@ -37,22 +37,45 @@ inForceBy s n = cond (eqb n 255) true (inSet s n)
 abbrev pub firstOf : ℕ → ℕ → ℕ
 firstOf kept given = cond (eqb kept 0) given kept
 
--- the weights of the policies that count among the first n of the table A, a role each
-pub record AreChosen (s : ℕ) (a : List ℕ) (n p : ℕ) (f : ChosenWeights) : Type 0 where
-  pub own : (r : ℕ) → r < 8 → getD (f .own) r 0 ≡ chosenWeight (inForceBy s) anyType a n r p
-  pub inh : (r : ℕ) → r < 8 → getD (f .inh) r 0 ≡ chosenWeight (inForceBy s) typeOne a n r p
+-- v has f r p, of role r and permission p, at 8 times p and r, for 8 roles and 16 permissions
+pub record Placed (f : ℕ → ℕ → ℕ) (v : List ℕ) : Type 0 where
+  pub place : (r p : ℕ) → r < 8 → p < 16 → getD v (8 * p + r) 0 ≡ f r p
+
+-- the weights of the policies that count among the first n of the table A, by the set s of context numbers
+pub record AreChosen (s : ℕ) (a : List ℕ) (n : ℕ) (f : ChosenWeights) : Type 0 where
+  pub any : Placed (chosenWeight (inForceBy s) anyType a n) (f .own)
+  pub one : Placed (chosenWeight (inForceBy s) typeOne a n) (f .inh)
+
+-- no weight is above 5
+abbrev pub Light : List ℕ → Type 0
+Light v = (i : ℕ) → i < 128 → getD v i 0 ≤ 5
+
+-- the lists have own(r, p) and inh(r, p) of the base b in a context
+pub record ChosenBy (b : List ℕ) (at : Context) (owns inhs : List ℕ) : Type 0 where
+  pub own-at : Placed (own b at) owns
+  pub inh-at : Placed (inh b at) inhs
+  pub own-light : Light owns
+  pub inh-light : Light inhs
 
 -- w has the weight of each role for permission p
 pub record AreWeights (b : List ℕ) (at : Context) (p : ℕ) (w : List ℕ) : Type 0 where
   pub role : (r : ℕ) → r < 8 → getD w r 0 ≡ weight b at r p
 
--- what a role's juniors, as the set s, hand on to it
-abbrev pub handedOn : List ℕ → ℕ → ℕ
-handedOn inh s = sumBelow 8 (λ j. cond (inSet s j) (getD inh j 0) 0)
+-- what a junior j that hands on x gives to a role with the juniors s
+abbrev pub given : ℕ → ℕ → ℕ → ℕ
+given s j x = cond (inSet s j) x 0
 
--- w has each role's own weight and what its juniors hand on
-pub record Summed (f : ChosenWeights) (juniors w : List ℕ) : Type 0 where
-  pub role : (r : ℕ) → r < 8 → getD w r 0 ≡ getD (f .own) r 0 + handedOn (f .inh) (getD juniors r 0)
+-- w is the weights `was` where junior j has handed on x to the roles below n
+pub record HandedOn (juniors : List ℕ) (j x n : ℕ) (was w : List ℕ) : Type 0 where
+  pub size : length w ≡ 8
+  pub done : (r : ℕ) → r < n → getD w r 0 ≡ getD was r 0 + given (getD juniors r 0) j x
+  pub rest : (r : ℕ) → n ≤ r → getD w r 0 ≡ getD was r 0
+
+-- w has each role's own weight for permission p and what the juniors below n hand on
+pub record Summed (owns inhs juniors : List ℕ) (p n : ℕ) (w : List ℕ) : Type 0 where
+  pub size : length w ≡ 8
+  pub role : (r : ℕ) → r < 8 →
+      getD w r 0 ≡ getD owns (8 * p + r) 0 + sumBelow n (λ j. given (getD juniors r 0) j (getD inhs (8 * p + j) 0))
 
 -- j is a junior of s by one record, or of a junior whose juniors are known
 abbrev pub nextJunior : List ℕ → List ℕ → ℕ → ℕ → ℕ → Bool

@@ -1,34 +1,44 @@
 // A role's weight: its own, and what its juniors hand on.
-use crate::ChosenWeights;
+use crate::policies;
 use crate::sets;
 ghost use mathlib.Core.Path.{_≡_};
-ghost use Prim.Native.Nat.{ℕ, _+_, _≤_, _<_};
-ghost use lib.ListN.{getD};
-ghost use Rattle.weights.specs.Setting.{handedOn, Summed};
+ghost use Prim.Native.Nat.{ℕ, _+_, _*_, _≤_, _<_};
+ghost use lib.ListN.{length, getD};
+ghost use Rattle.weights.specs.Setting.{given, HandedOn};
 
-fn handed_on(inh: [u8; 8], set: u8) -> u8
-    requires { ⌜ ((j : ℕ) → j < 8 → getD inh j 0 ≤ 5) ⌝ }
-    ensures { λ r. ⌜ (r ≡ handedOn inh set) × (r ≤ 40) ⌝ }
+// What junior j, which hands on x, gives to a role with this set of juniors.
+fn share(set: u8, j: u8, x: u8) -> u8
+    requires { ⌜ j < 8 ⌝ }
+    ensures { λ r. ⌜ (r ≡ given set j x) × (r ≤ x) ⌝ }
 {
-    let mut sum: u8 = 0;
-    for j in 0..8u8 {
-        if sets::in_set(set as u32, j) {
-            sum = sum + inh[j as usize];
-        }
+    if sets::in_set(set as u32, j) {
+        return x;
     }
-    sum
+    0
 }
 
-// Inner: each role's own weight and what its juniors hand on.
-pub fn summed(first: ChosenWeights, juniors: [u8; 8]) -> [u8; 8]
-    requires { ⌜ ((r : ℕ) → r < 8 → getD (first .own) r 0 ≤ 5) × ((r : ℕ) → r < 8 → getD (first .inh) r 0 ≤ 5) ⌝ }
-    ensures { λ w. ⌜ Summed first juniors w ⌝ }
+// Inner: junior j hands on x to each role that is its senior.
+pub fn hand_on(w: &mut [u8; 8], juniors: [u8; 8], j: u8, x: u8)
+    requires { ⌜ (length (now w) ≡ 8) × (j < 8) × ((r : ℕ) → r < 8 → getD (now w) r 0 + x ≤ 255) ⌝ }
+    ensures { λ _. ⌜ HandedOn juniors j x 8 (now (w .entry)) (now (w .exit)) ⌝ }
 {
-    let own = first.own;
-    let inh = first.inh;
-    let mut w = [0u8; 8];
+    if x == 0 {
+        return;
+    }
     for r in 0..8usize {
-        w[r] = own[r] + handed_on(inh, juniors[r]);
+        w[r] = w[r] + share(juniors[r], j, x);
+    }
+}
+
+// Inner: the roles' own weights for one permission.
+pub fn own_weights(own: &[u8; 128], permission: u8) -> [u8; 8]
+    requires { ⌜ permission < 16 ⌝ }
+    ensures { λ w. ⌜
+        (length w ≡ 8) × ((r : ℕ) → r < 8 → getD w r 0 ≡ getD (now (own .entry)) (8 * permission + r) 0) ⌝ }
+{
+    let mut w = [0u8; 8];
+    for r in 0..8u8 {
+        w[r as usize] = own[policies::place_of(permission, r)];
     }
     w
 }

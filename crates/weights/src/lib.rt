@@ -1,7 +1,11 @@
 // Contexts, seniority and weights: what a base and a context fix, and each role's weight for a permission.
 ghost use mathlib.Core.Path.{_≡_};
+ghost use mathlib.Core.List.{List};
+ghost use Prim.Native.Nat.{ℕ, _<_};
+ghost use Rattle.reader.specs.Tables.{hierarchy, tableOf};
 ghost use Rattle.reader.specs.Rules.{refusalOf};
-ghost use Rattle.weights.specs.Setting.{FixedBy, AreWeights};
+ghost use Rattle.weights.specs.declared.Context.{Context};
+ghost use Rattle.weights.specs.Setting.{Juniors, FixedBy, Light, ChosenBy, AreWeights};
 
 pub mod acting;
 pub mod contexts;
@@ -26,10 +30,11 @@ pub struct Fixed {
     pub juniors: [u8; 8],
 }
 
-// For each role the weight of the policy that counts, or 0: of any type (own), and of type 1 (inh).
+// For each role and permission the weight of the policy that counts, or 0: of any type (own), and of type 1 (inh); at 8
+// times the permission and the role.
 pub struct ChosenWeights {
-    pub own: [u8; 8],
-    pub inh: [u8; 8],
+    pub own: [u8; 128],
+    pub inh: [u8; 128],
 }
 
 // Inner: the setting of an accepted base.
@@ -46,17 +51,30 @@ pub fn setting(base: &[u8], at: Context) -> Fixed
     }
 }
 
-// Inner: the weights of all roles for one permission of an accepted base, where s is a setting of that base.
-pub fn role_weights(base: &[u8], s: Fixed, permission: u8) -> [u8; 8]
+// Inner: the chosen weights of an accepted base, where s is a setting of that base.
+pub fn chosen(base: &[u8], s: Fixed) -> ChosenWeights
     requires { ⌜ (refusalOf (now base) ≡ 0) × FixedBy (now base) s ⌝ }
-    ensures { λ w. ⌜ AreWeights (now (base .entry)) (s .at) permission w ⌝ }
+    ensures { λ f. ⌜ ChosenBy (now (base .entry)) (s .at) (f .own) (f .inh) ⌝ }
 {
     let contexts = s.contexts;
-    let juniors = s.juniors;
-    let first = policies::chosen_weights(
-        reader::trailer::part(base, reader::POLICIES),
-        contexts,
-        permission,
-    );
-    inherited::summed(first, juniors)
+    policies::chosen_weights(reader::trailer::part(base, reader::POLICIES), contexts)
+}
+
+// Inner: the weights of all roles for one permission, by the chosen weights and the juniors of an accepted base.
+pub fn role_weights<'a>(
+    own: &'a [u8; 128],
+    inh: &'a [u8; 128],
+    juniors: [u8; 8],
+    permission: u8,
+) -> [u8; 8]
+    requires { ⌜ Light (now own) × Light (now inh) × (permission < 16) ⌝ }
+    ensures { λ w. ⌜
+        ((b : List ℕ) (at : Context) → refusalOf b ≡ 0 → ChosenBy b at (now (own .entry)) (now (inh .entry)) →
+        Juniors (tableOf b hierarchy) juniors → AreWeights b at permission w) ⌝ }
+{
+    let mut w = inherited::own_weights(own, permission);
+    for j in 0..8u8 {
+        inherited::hand_on(&mut w, juniors, j, inh[policies::place_of(permission, j)]);
+    }
+    w
 }

@@ -1,14 +1,13 @@
-// The policy that counts for each role: one pass over A.
+// The policy that counts for each role and permission: one pass over A.
 use crate::ChosenWeights;
 use crate::sets;
 use reader::bytes;
 ghost use mathlib.Core.Path.{_≡_};
-ghost use mathlib.Core.Bool.{false, cond, _&&_};
+ghost use mathlib.Core.Bool.{false, cond};
 ghost use mathlib.Core.Logic.{_⊎_};
 ghost use Prim.Native.Nat.{_+_, _*_, _/_, _≤_, _<_};
 ghost use lib.ListN.{length};
 ghost use lib.Dec.{eqb};
-ghost use Rattle.reader.specs.Fields.{policyPermission, policyContext};
 ghost use Rattle.reader.specs.Rules.{policiesBad};
 ghost use Rattle.weights.specs.Setting.{inForceBy, firstOf, AreChosen};
 
@@ -43,31 +42,30 @@ fn type_one_weight(weight: u8, policy_type: u8) -> u8
     0
 }
 
-// Policy i is one for the permission, and it is active.
-fn applies(a: &[u8], i: usize, contexts: u32, permission: u8) -> bool
-    requires { ⌜ (i < length (now a) / 8) × (policiesBad 8 256 (now a) ≡ false) ⌝ }
-    ensures { λ r. ⌜ r ≡ (eqb (policyPermission (now (a .entry)) i) permission && inForceBy contexts (policyContext (now (a .entry)) i)) ⌝ }
+// Inner: where the weight of a role for a permission stands.
+pub fn place_of(permission: u8, role: u8) -> usize
+    requires { ⌜ (permission < 16) × (role < 8) ⌝ }
+    ensures { λ r. ⌜ (r ≡ 8 * permission + role) × (r < 128) ⌝ }
 {
-    if a[8 * i + 1] != permission {
-        return false;
-    }
-    in_force(contexts, a[8 * i + 4])
+    8 * bytes::wide(permission) + bytes::wide(role)
 }
 
-// Inner: the weights of the policies that count for the permission, by a table A that passed the check.
-pub fn chosen_weights(a: &[u8], contexts: u32, permission: u8) -> ChosenWeights
-    requires { ⌜ policiesBad 8 256 (now a) ≡ false ⌝ }
-    ensures { λ f. ⌜ AreChosen contexts (now (a .entry)) (length (now (a .entry)) / 8) permission f ⌝ }
+// Inner: the weights of the policies that count, by a table A that passed the check.
+pub fn chosen_weights(a: &[u8], contexts: u32) -> ChosenWeights
+    requires { ⌜ policiesBad 8 16 (now a) ≡ false ⌝ }
+    ensures { λ f. ⌜ AreChosen contexts (now (a .entry)) (length (now (a .entry)) / 8) f ⌝ }
 {
-    let mut own = [0u8; 8];
-    let mut inh = [0u8; 8];
+    let mut f = ChosenWeights {
+        own: [0u8; 128],
+        inh: [0u8; 128],
+    };
     for i in 0..a.len() / 8 {
-        if applies(a, i, contexts, permission) {
-            let r = bytes::wide(a[8 * i]);
+        if in_force(contexts, a[8 * i + 4]) {
+            let at = place_of(a[8 * i + 1], a[8 * i]);
             let weight = a[8 * i + 2];
-            own[r] = first_of(own[r], weight);
-            inh[r] = first_of(inh[r], type_one_weight(weight, a[8 * i + 3]));
+            f.own[at] = first_of(f.own[at], weight);
+            f.inh[at] = first_of(f.inh[at], type_one_weight(weight, a[8 * i + 3]));
         }
     }
-    ChosenWeights { own, inh }
+    f
 }
