@@ -19,7 +19,8 @@ use Rattle.folds.proofs.Tests.{split}
 use Rattle.folds.proofs.Sets.{in-one, in-or, in-none, in-set, set-lt, same-set, or-assoc}
 use Rattle.decision.specs.Groups.{entryCount, entryUser, entryRole, actedIn, sumOf, rolesOf}
 use Rattle.decision.specs.Granting.{Granted}
-use Rattle.report.specs.Rising.{Entry, May, entriesSum, entriesRoles}
+use Rattle.multisets.specs.Rising.{Entry, May, entriesSum, entriesRoles}
+use Rattle.multisets.specs.Standing.{bytesBack}
 
 -- the tables stand for who may act in which role, and for the roles' weights
 pub record Tables (U R : ℕ) (may : ℕ → ℕ → Bool) (weigh : ℕ → ℕ) (sets w : List ℕ) : Type 0 where
@@ -30,11 +31,6 @@ pub record Tables (U R : ℕ) (may : ℕ → ℕ → Bool) (weigh : ℕ → ℕ)
 abbrev pub Falls : List ℕ → List ℕ → ℕ → List Entry → Type 0
 Falls sets w end [] = Unit {0}
 Falls sets w end (e ∷ g) = (e .user < end) × May sets w e × Falls sets w (e .user) g
-
--- the bytes of entries the other way round
-abbrev pub bytesBack : List Entry → List ℕ
-bytesBack [] = []
-bytesBack (e ∷ g) = bytesBack g ++ (e .user ∷ e .role ∷ [])
 
 -- entry i of the bytes
 abbrev entryAt : List ℕ → ℕ → Entry

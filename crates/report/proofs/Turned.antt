@@ -10,32 +10,9 @@ use lib.Bits.{bitOr, or-comm, or-zero-l, or-zero-r}
 use Rattle.folds.proofs.Sets.{or-assoc}
 use Rattle.decision.specs.Groups.{entryCount, entryUser, sumOf, rolesOf}
 use Rattle.decision.specs.Granting.{Granted}
-use Rattle.report.specs.Rising.{Entry, May, Rises, entriesSum, entriesRoles, bytesOf}
-use Rattle.report.proofs.Bridge.{Tables, Falls, bytesBack, falls-rising, falls-granted, granted-falls}
-
--- the entries of g, turned round, before those of h
-abbrev turned : List Entry → List Entry → List Entry
-turned [] h = h
-turned (e ∷ g) h = turned g (e ∷ h)
-
--- number, sum and set stay
-turned-length : (g h : List Entry) → length (turned g h) ≡ length g + length h
-turned-length [] h = omega arith
-turned-length (e ∷ g) h = let a = turned-length g (e ∷ h) in omega arith
-
-turned-sum : (w : List ℕ) (g h : List Entry) → entriesSum w (turned g h) ≡ entriesSum w g + entriesSum w h
-turned-sum w [] h = omega arith
-turned-sum w (e ∷ g) h = let a = turned-sum w g (e ∷ h) in omega arith
-
-turned-roles : (g h : List Entry) → entriesRoles (turned g h) ≡ bitOr (entriesRoles g) (entriesRoles h)
-turned-roles [] h = sym (or-zero-l (entriesRoles h))
-turned-roles (e ∷ g) h =
-    turned-roles g (e ∷ h) ∙ sym (or-assoc (entriesRoles g) (2 ^ (e .role)) (entriesRoles h)) ∙ ap (λ (x : ℕ). bitOr x (entriesRoles h)) (or-comm (entriesRoles g) (2 ^ (e .role)))
-
--- and so do the bytes, read the other way
-turned-bytes : (g h : List Entry) → bytesBack (turned g h) ≡ bytesBack h ++ bytesOf g
-turned-bytes [] h = sym (append-nil (bytesBack h))
-turned-bytes (e ∷ g) h = turned-bytes g (e ∷ h) ∙ append-assoc (bytesBack h) (e .user ∷ e .role ∷ []) (bytesOf g)
+use Rattle.multisets.specs.Rising.{Entry, May, Rises, entriesSum, entriesRoles, bytesOf}
+use Rattle.multisets.proofs.Turned.{turned, turned-length, turned-sum, turned-roles, turned-bytes, rises-less}
+use Rattle.report.proofs.Bridge.{Tables, Falls, falls-rising, falls-granted, granted-falls}
 
 -- each entry is 2 bytes
 pub bytes-length : (g : List Entry) → length (bytesOf g) ≡ 2 * length g
@@ -43,11 +20,6 @@ bytes-length [] = refl
 bytes-length (e ∷ g) = let h = bytes-length g in omega arith
 
 module _ (sets w : List ℕ) where
-  -- a rising list rises from any earlier user on
-  pub rises-less : (a b : ℕ) (g : List Entry) → b ≤ a → Rises sets w a g → Rises sets w b g
-  rises-less a b [] h r = tt
-  rises-less a b (e ∷ g) h r = (le-trans h (r .0), r .1, r .2)
-
   -- a falling list lies below any later end
   falls-more : (a b : ℕ) (g : List Entry) → a ≤ b → Falls sets w a g → Falls sets w b g
   falls-more a b [] h f = tt
@@ -60,8 +32,8 @@ module _ (sets w : List ℕ) where
 
   -- and a falling one rises
   falls-rises : (end : ℕ) (g h : List Entry) → Falls sets w end g → Rises sets w end h → Rises sets w 0 (turned g h)
-  falls-rises end [] h f r = rises-less end 0 h (omega arith) r
-  falls-rises end (e ∷ g) h f r = falls-rises (e .user) g (e ∷ h) (f .2) (le-refl (e .user), f .1, rises-less end (e .user + 1) h (let l = f .0 in omega arith) r)
+  falls-rises end [] h f r = rises-less sets w end 0 h (omega arith) r
+  falls-rises end (e ∷ g) h f r = falls-rises (e .user) g (e ∷ h) (f .2) (le-refl (e .user), f .1, rises-less sets w end (e .user + 1) h (let l = f .0 in omega arith) r)
 
   -- the users in the bytes of a rising list rise strictly
   pub rises-rising : (g : List Entry) → Rises sets w 0 g → (i j : ℕ) → i < j → j < length g → entryUser (bytesOf g) i < entryUser (bytesOf g) j

@@ -1,9 +1,4 @@
 pub mod Smallest
-pub mod Rising
-pub mod Levels
-pub mod Marks
-pub mod Masks
-pub mod Back
 pub mod Search
 pub mod Report
 pub mod Parts

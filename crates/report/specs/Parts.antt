@@ -15,16 +15,6 @@ pub record ActingSets (b sets : List ℕ) : Type 0 where
   pub size : length sets ≡ 24
   pub user : (u : ℕ) → u < 24 → getD sets u 0 ≡ setBelow 8 (mayAct b u)
 
--- no role weighs more than m, which is at most 40
-pub record Heaviest (w : List ℕ) (m : ℕ) : Type 0 where
-  pub role : (r : ℕ) → r < 8 → getD w r 0 ≤ m
-  pub at-most : m ≤ 40
-
--- d is one past every role that has weight
-pub record RolesEnd (w : List ℕ) (d : ℕ) : Type 0 where
-  pub at-most : d ≤ 8
-  pub role : (r : ℕ) → r < 8 → 0 < getD w r 0 → r < d
-
 -- the 13 bytes of permission p
 pub record PartFor (b : List ℕ) (at : Context) (p : ℕ) (part : List ℕ) : Type 0 where
   pub group : List ℕ

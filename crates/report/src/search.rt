@@ -1,92 +1,102 @@
-// The search: a level an entry, until a cell meets the permission's condition, and back to the entries.
-use crate::back;
-use crate::levels;
+// The fewest entries that meet a permission's condition, among any users and from any entries placed before. It knows no
+// base.
+use crate::weighing;
+use masks::Placed;
+use multisets::search::Found;
 use reader::bytes;
 ghost use mathlib.Core.Path.{_≡_};
-ghost use mathlib.Core.List.{List, _∷_};
-ghost use Prim.Native.Nat.{ℕ, _≤_, _<_};
-ghost use lib.ListN.{length, getD, replicate};
-ghost use Rattle.report.specs.Levels.{Advanced};
-ghost use Rattle.report.specs.Back.{AtReached};
-ghost use Rattle.report.specs.Search.{Start, Asked, Stepped, Sought};
+ghost use mathlib.Core.List.{List};
+ghost use Prim.Native.Nat.{ℕ, _+_, _-_, _*_, _^_, _≤_, _<_};
+ghost use lib.ListN.{length, getD};
+ghost use Rattle.multisets.specs.Ranks.{first, Starts};
+ghost use Rattle.multisets.specs.Ends.{NextEnds};
+ghost use Rattle.multisets.specs.Levels.{Levels};
+ghost use Rattle.multisets.specs.Values.{Light};
+ghost use Rattle.multisets.specs.Search.{Answered};
+ghost use Rattle.report.specs.Search.{holdsWith, LastRow, Seeking};
 
-// A cell of a level's table, or 61,696, and the 13 bytes with the entries that lead on from it.
-pub struct Found {
-    pub cell: usize,
-    pub part: [u8; 13],
+// The last row that isn't empty, or 0.
+fn last_row(rows: [u64; 7]) -> usize
+    requires { ⌜ length rows ≡ 7 ⌝ }
+    ensures { λ r. ⌜ LastRow rows r ⌝ }
+{
+    let mut last: usize = 0;
+    for n in 0..7usize {
+        if rows[n] != 0 {
+            last = n;
+        }
+    }
+    last
 }
 
-// Inner: the 13 bytes of n approvers and no entry.
-pub fn blank(n: u8) -> [u8; 13]
-    ensures { λ part. ⌜ part ≡ n ∷ replicate 12 255 ⌝ }
+// That there are none; the tables stay as they are.
+fn nothing(known: usize) -> Found
+    ensures { λ f. ⌜ (f .n ≡ 7) × (f .known ≡ known) ⌝ }
 {
-    let mut part = [255u8; 13];
-    part[0] = n;
-    part
-}
-
-// One level back from a cell of the table next, with the entry that leads to it.
-fn stepped(sets: &[u8], w: [u8; 8], n: u8, t: &[u8], next: &[u8], later: Found) -> Found
-    requires { ⌜ (length (now sets) ≤ 24) × (n ≤ 5) × (length (now t) ≡ 61696) × Advanced (now sets) w (now t) 61696 (now next) × (later .cell < 61696) × (getD (now next) (later .cell) 0 < 255) × (length (later .part) ≡ 13) ⌝ }
-    ensures { λ f. ⌜ Stepped (now (sets .entry)) w n (now (t .entry)) (now (next .entry)) (later .cell) (later .part) (f .cell) (f .part) ⌝ }
-{
-    let cell = later.cell;
-    let end = bytes::wide(next[cell]);
-    let before = back::step_back(sets, w, t, (cell % 256) as u8, cell / 256, end);
-    let mut part = later.part;
-    part[2 * bytes::wide(n) + 1] = (end - 1) as u8;
-    part[2 * bytes::wide(n) + 2] = before.role;
     Found {
-        cell: before.cell,
-        part,
+        n: 7,
+        group: [255; 12],
+        known,
     }
 }
 
-// Inner: from the table t of n entries placed, with sums up to `top`, the fewest entries more that by the masks meet the
-// permission's condition; no role weighs more than `heavy`.
-pub fn search(
-    sets: &[u8],
-    ends: &[u8],
+// Inner: the fewest entries more, with those placed at most six, that meet the permission's condition with them, by a table
+// K that passed the check; among users by their next ends and roles below d. The tables are those of the search.
+pub fn fewest(
+    k: &[u8],
+    permission: u8,
     w: [u8; 8],
-    heavy: usize,
-    masks: &[u64],
-    n: u8,
-    top: usize,
-    t: &[u8],
-    reached: &[u64],
+    start: Placed,
+    starts: &[usize],
+    d: usize,
+    counts: &[u8],
+    nexts: &[u8],
+    known: usize,
+    t: &mut [u16],
+    ends: &mut [u8],
+    from: &mut [u16],
+    roles: &mut [u8],
+    sums: &mut [u8],
 ) -> Found
-    requires { ⌜ Start (now sets) (now ends) w heavy (now masks) n top (now t) (now reached) ⌝ }
-    ensures { λ f. ⌜ AtReached (now (t .entry)) (f .cell) × (length (f .part) ≡ 13) × ((k : List ℕ) (p : ℕ) → Asked w k p heavy (now (masks .entry)) (now (t .entry)) → Sought (now (sets .entry)) w k p n (now (t .entry)) (f .cell) (f .part)) ⌝ }
+    requires { ⌜
+        Seeking (now k) w start d (now counts) × Starts (now starts)
+        × ((users : List ℕ) × NextEnds users (now nexts)) × (first d 7 ≤ length (now sums))
+        × Levels d known (now nexts) (now t) (now ends) (now from) (now roles)
+        ⌝ }
+    ensures { λ f. ⌜
+        Levels d (f .known) (now (nexts .entry)) (now (t .exit)) (now (ends .exit)) (now (from .exit)) (now (roles .exit))
+        × ((sets : List ℕ) → NextEnds sets (now (nexts .entry)) →
+        Answered sets w (start .sum) (holdsWith (now (k .entry)) permission start) (6 - start .count) (f .n) (f .group))
+        ⌝ }
 {
-    let cell = back::meeting_cell(masks, n, top, t, reached);
-    if cell < 61696 {
-        return Found {
-            cell,
-            part: blank(n),
-        };
+    let weighed = weighing::weighed(w);
+    let own = masks::clauses::own_clauses(k, permission);
+    if own == 0 {
+        return nothing(known);
     }
-    if n == 6 {
-        return Found {
-            cell: 61696,
-            part: blank(0),
-        };
+    if weighed.heavy + start.count == 0 {
+        return nothing(known);
     }
-    let mut next = [255u8; 61696];
-    let mut marks = [0u64; 964];
-    levels::advance(ends, w, top, t, reached, &mut next, &mut marks);
-    let later = search(
-        sets,
-        ends,
+    let mut by_sum = [0u64; 256];
+    let mut by_set = [0u64; 256];
+    let rows = masks::masks_for(k, own, w, weighed, start, counts, &mut by_sum, &mut by_set);
+    let last = last_row(rows);
+    multisets::search::search(
+        starts,
+        d,
+        bytes::wide(weighed.end),
+        last,
         w,
-        heavy,
-        masks,
-        n + 1,
-        top + heavy,
-        &next,
-        &marks,
-    );
-    if later.cell == 61696 {
-        return later;
-    }
-    stepped(sets, w, n, t, &next, later)
+        start.sum as u8,
+        nexts,
+        &by_sum,
+        &by_set,
+        &rows,
+        known,
+        t,
+        ends,
+        from,
+        roles,
+        sums,
+    )
 }

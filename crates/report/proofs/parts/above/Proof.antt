@@ -5,7 +5,10 @@ use Rattle.report.proofs.parts.above.Statement.{statement}
 use Rattle.report.proofs.parts.above.Tie as tie
 
 returns : tie.Need-returns
-returns c = let some : 0 < c .before .args .number = let m = c .if1 .taken in omega arith in (rw (lt-ltb _ _ some), omega arith)
+returns c =
+    let m = c .if1 .taken in
+    let some : 0 < c .before .args .number = omega arith in
+    (rw (lt-ltb _ _ some), omega arith)
 
 returns-2 : tie.Need-returns-2
 returns-2 c = (rw (le-ltb _ _ (c .if1 .left)), omega arith)

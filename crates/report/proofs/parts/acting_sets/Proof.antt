@@ -13,7 +13,8 @@ use Rattle.report.proofs.parts.acting_sets.Statement.{statement}
 use Rattle.report.proofs.parts.acting_sets.Tie as tie
 
 abbrev Inv-loop : tie.InvT-loop
-Inv-loop base users roles sets₀ u₀ sets u = (u ≤ 24) × (length sets ≡ 24) × ((v : ℕ) → v < u → getD sets v 0 ≡ setBelow 8 (mayActBy roles users v))
+Inv-loop base users roles sets₀ u₀ sets u =
+    (u ≤ 24) × (length sets ≡ 24) × ((v : ℕ) → v < u → getD sets v 0 ≡ setBelow 8 (mayActBy roles users v))
 
 abbrev μ-loop : tie.MeasureT-loop
 μ-loop base users roles sets₀ u₀ sets u = 24 - u
@@ -28,7 +29,8 @@ loop-holds : tie.Need-loop-holds Inv-loop μ-loop
 loop-holds c = (search needs, refl, λ v l. absurd (not-suc-le-zero l))
 
 acting-roles-requires : tie.Need-acting-roles-requires Inv-loop μ-loop
-acting-roles-requires c κs = rw (c .before .before .role-count .ensures) (roles-range _ (accepted-frame _ (c .before .before .before .before .before .pre)) .1)
+acting-roles-requires c κs = rw (c .before .before .role-count .ensures)
+    (roles-range _ (accepted-frame _ (c .before .before .before .before .before .pre)) .1)
 
 array-write-sets : tie.Need-array-write-sets Inv-loop μ-loop
 array-write-sets c = search needs
@@ -44,7 +46,12 @@ loop-again c =
     let l = c .before .before .loop in (
       search needs,
       length-set (l .sets) (l .u) _ ∙ l .inv .1,
-      stored (l .sets) (l .u) _ (λ v x. x ≡ setBelow 8 (mayActBy (c .before .before .before .role-count .result) (c .before .before .before .before .part .result .now) v)) (rw (l .inv .1) (c .before .loop-test .taken)) (l .inv .2) (c .acting-roles .ensures),
+      stored (l .sets) (l .u) _
+          (λ v x. x
+          ≡ setBelow 8
+          (mayActBy (c .before .before .before .role-count .result)
+          (c .before .before .before .before .part .result .now) v)) (rw (l .inv .1) (c .before .loop-test .taken))
+          (l .inv .2) (c .acting-roles .ensures),
     )
 
 returns : tie.Need-returns Inv-loop μ-loop
@@ -52,7 +59,12 @@ unfolding setBelow
 returns c =
     let l = c .before .loop in
     let e : l .u ≡ 24 = omega arith in
-    record { size = l .inv .1; user = λ v m. rw (← c .before .before .role-count .ensures, ← c .before .before .before .part .ensures) (l .inv .2 v (rw e m)) }
+    record {
+      size = l .inv .1;
+      user =
+          λ v m. rw (← c .before .before .role-count .ensures, ← c .before .before .before .part .ensures)
+          (l .inv .2 v (rw e m));
+    }
 
 pub acting-sets-spec : {M : Type 1} → statement M
 acting-sets-spec =

@@ -34,14 +34,21 @@ loop-again c =
     let l = c .before .loop in (
       search needs,
       length-set (l .out) (l .i) _ ∙ l .inv .1,
-      rw (l .inv .2) (copy-more (c .before .before .args .t2) (c .before .before .args .out .now) (l .i) (rw (c .before .before .pre .1) (c .loop-test .taken)) (rw (c .before .before .pre .0) (c .loop-test .taken))),
+      rw (l .inv .2)
+          (copy-more (c .before .before .args .t2) (c .before .before .args .out .now) (l .i)
+          (rw (c .before .before .pre .1) (c .loop-test .taken))
+          (rw (c .before .before .pre .0) (c .loop-test .taken))),
     )
 
 same-length : tie.Need-same-length Inv-loop μ-loop
 same-length c = c .before .loop .inv .1 ∙ sym (c .before .before .pre .0)
 
 returns : tie.Need-returns Inv-loop μ-loop
-returns c = let l = c .before .loop in let e : l .i ≡ 13 = omega arith in l .inv .2 ∙ rw e (copy-done 13 (c .before .before .args .t2) (c .before .before .args .out .now) (c .before .before .pre .1) (c .before .before .pre .0))
+returns c =
+    let l = c .before .loop in
+    let s = c .before .before in
+    let e : l .i ≡ 13 = omega arith in
+    l .inv .2 ∙ rw e (copy-done 13 (s .args .t2) (s .args .out .now) (s .pre .1) (s .pre .0))
 
 pub put-spec : {M : Type 1} → statement M
 put-spec =

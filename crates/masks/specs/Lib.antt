@@ -1,0 +1,4 @@
+pub mod Clauses
+pub mod Masks
+pub mod Rows
+pub mod Sets

@@ -1,0 +1,14 @@
+pub mod Blocks
+pub mod Places
+pub mod Sets
+pub mod Holding
+pub mod Nexts
+pub mod Filling
+pub mod Reach
+pub mod Turned
+pub mod Meeting
+pub mod Writing
+pub mod Bytes
+pub mod Rows
+pub mod Tried
+pub mod Eights
