@@ -140,7 +140,7 @@ fn edges(pairs: &[(u8, u8)]) -> Vec<Edge> {
 }
 
 /// Users by the sets of their roles.
-fn users(sets: &[u8]) -> Vec<User> {
+pub fn users(sets: &[u8]) -> Vec<User> {
     let product = |set: u8| {
         let codes = (0..8).zip(CODES).filter(|(role, _)| set >> role & 1 == 1);
         codes.map(|(_, code)| code).product()

@@ -3,9 +3,9 @@
 use compare::questions::at_minute;
 use compare::shop::small_shop;
 use model::Context;
-use twin::worst;
 
 use crate::bases::{full_base, many_contexts, most_conflicts, typical_shop};
+use crate::worst;
 
 #[derive(Clone, Copy, PartialEq, Eq)]
 pub enum Call {
@@ -112,14 +112,14 @@ pub fn cases() -> Vec<Case> {
         case("decide small shop", Call::Decide, &small, &[0, 0, 2, 2]),
         case("decide typical shop", Call::Decide, &typical, &[0, 0, 6, 3]),
         case("decide full base", Call::Decide, &full, &six),
-        case("report small shop", Call::Report, &small, &[]),
-        case("report typical shop", Call::Report, &typical, &[]),
+        report("report small shop", &small),
+        report("report typical shop", &typical),
+        report("report full base", &full),
     ];
-    let reports = worst::all().map(|(name, plan)| {
-        let name = format!("report {name}");
-        case(&name, Call::Report, &plan.bytes(), &[])
-    });
-    cases.extend(reports);
+    let plans = twin::worst::all().map(|(name, plan)| (name, plan.bytes()));
+    let made = worst::all().map(|(name, base)| (name, base.bytes()));
+    let reports = plans.into_iter().chain(made);
+    cases.extend(reports.map(|(name, base)| report(&format!("report {name}"), &base)));
     let conflicts = [
         ("small shop", small),
         ("typical shop", typical),
@@ -131,6 +131,11 @@ pub fn cases() -> Vec<Case> {
         case(&name, Call::Conflicts, &base, &[])
     }));
     cases
+}
+
+/// A report on a base.
+pub fn report(name: &str, base: &[u8]) -> Case {
+    case(name, Call::Report, base, &[])
 }
 
 fn case(name: &str, call: Call, base: &[u8], group: &[u8]) -> Case {

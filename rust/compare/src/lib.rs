@@ -1,6 +1,7 @@
 //! Bases to try, and the comparison of the library's answers with the model's.
 
 pub mod builder;
+pub mod capped;
 pub mod cases;
 pub mod clashing;
 pub mod damage;
@@ -122,40 +123,55 @@ pub fn expect_conflicts(base: &[u8], length: usize, answer: (u8, u32), written: 
     }
 }
 
-/// The answer to a call for the report that the library and the model agree
-/// on. They also agree on each byte that the buffer and its guards hold
-/// afterwards, but for the groups shown: the library's are as small as the
-/// model's, and both grant them.
+/// The answer to a call for the report that the library, the twin and the model
+/// agree on. They also agree on each byte that the buffer and its guards hold
+/// afterwards, but for the groups shown: those of the library and the twin are
+/// as small as the model's, and library and model grant them.
 pub fn agreed_report(base: &[u8], at: Context, lent: &mut Lent) -> model::Answer {
-    let mut models = lent.clone();
+    let (mut models, mut twins) = (lent.clone(), lent.clone());
     let by_model = model::report(base, at, models.buffer());
+    let by_twin = twin::report(base, at, twins.buffer());
     let base_before = base.to_vec();
     let by_library = release::answers::report(base, library_context(at), lent.buffer());
     let length = lent.length();
     let case = || format!("{length} bytes lent, {at:?}, base {}", hex(&base_before));
-    assert!(
-        by_library.refusal == u32::from(by_model.refusal) && by_library.count == by_model.count,
-        "model {by_model:?}, library {by_library:?}, {}",
-        case()
-    );
-    let written = match by_model.refusal {
-        0 => RECORD * permission_count(&base_before),
-        _ => 0,
-    };
-    let expected = &mut models.buffer()[..written];
-    let shown = &lent.buffer()[..written];
-    if let Some(fault) = shown::fault(&base_before, at, shown, &shown::numbers(expected)) {
-        panic!("{fault}, {}", case());
-    }
-    expected.copy_from_slice(shown);
-    if let Some(place) = lent.first_difference(&models) {
-        panic!(
-            "{by_model:?}, byte {place} of the buffer differs, {}",
+    let library = (by_library.refusal, by_library.count);
+    let twin = (u32::from(by_twin.refusal), by_twin.count);
+    for (name, answer, reported) in [("library", library, lent), ("twin", twin, &mut twins)] {
+        assert!(
+            answer == (by_model.refusal.into(), by_model.count),
+            "model {by_model:?}, {name} {answer:?}, {}",
             case()
         );
+        if let Some(fault) = report_fault(&base_before, at, by_model, &models, reported) {
+            panic!("{by_model:?}, {name}: {fault}, {}", case());
+        }
     }
     assert!(base == base_before, "the base was written, {}", case());
     by_model
+}
+
+/// What is wrong with a report beside the model's, which has this answer.
+fn report_fault(
+    base: &[u8],
+    at: Context,
+    answer: model::Answer,
+    models: &Lent,
+    reported: &mut Lent,
+) -> Option<String> {
+    let written = match answer.refusal {
+        0 => RECORD * permission_count(base),
+        _ => 0,
+    };
+    let mut expected = models.clone();
+    let records = &mut expected.buffer()[..written];
+    let shown = &reported.buffer()[..written];
+    if let Some(fault) = shown::fault(base, at, shown, &shown::numbers(records)) {
+        return Some(fault);
+    }
+    records.copy_from_slice(shown);
+    let place = reported.first_difference(&expected)?;
+    Some(format!("byte {place} of the buffer differs"))
 }
 
 /// The number of permissions, or 0 if the base is refused.
@@ -163,15 +179,15 @@ pub fn permission_count(base: &[u8]) -> usize {
     model::Base::read(base).map_or(0, |base| base.permissions.len())
 }
 
-/// Asserts that the library and the model both give these smallest numbers in
-/// a buffer of this length, whatever it held before.
+/// Asserts that the library, the twin and the model give these smallest numbers
+/// in a buffer of this length, whatever it held before.
 pub fn expect_report(base: &[u8], at: Context, length: usize, numbers: &[u8]) {
     let releasable = numbers.iter().filter(|k| **k > 0);
     let answer = (0, releasable.count() as u32);
     expect_report_answer(base, at, length, answer, numbers);
 }
 
-/// Asserts that the library and the model both refuse to report.
+/// Asserts that the library, the twin and the model refuse to report.
 pub fn expect_report_refused(base: &[u8], at: Context, length: usize, refusal: u8) {
     expect_report_answer(base, at, length, (refusal, 0), &[]);
 }
@@ -189,14 +205,14 @@ fn expect_report_answer(
         let case = || format!("{length} bytes lent, {at:?}, base {}", hex(base));
         assert!(
             (agreed.refusal, agreed.count) == answer,
-            "expected {answer:?}, both gave {agreed:?}, {}",
+            "expected {answer:?}, all gave {agreed:?}, {}",
             case()
         );
         let written = &lent.buffer()[..RECORD * numbers.len()];
         let found = shown::numbers(written);
         assert!(
             found == numbers,
-            "expected {numbers:?}, both gave {found:?}, {}",
+            "expected {numbers:?}, all gave {found:?}, {}",
             case()
         );
     }

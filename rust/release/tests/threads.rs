@@ -12,7 +12,7 @@ const EARLY: Context = Context {
 };
 
 /// Runs a call in a thread with so many bytes of stack.
-fn within<T: Send + 'static>(stack: usize, call: fn() -> T) -> T {
+fn within<T: Send + 'static>(stack: usize, call: impl FnOnce() -> T + Send + 'static) -> T {
     let thread = Builder::new().stack_size(stack).spawn(call);
     thread.expect("a thread starts").join().expect("it ends")
 }
@@ -31,9 +31,15 @@ fn releasable(base: &[u8]) -> Result<usize, Refusal> {
 }
 
 #[test]
-fn a_report_in_1_mib() {
-    assert_eq!(within(1 << 20, || releasable(&out_of_reach())), Ok(0));
-    assert_eq!(within(1 << 20, || releasable(&SMALL_SHOP)), Ok(1));
+fn a_report_in_64_kib() {
+    const LITTLE: usize = 1 << 16;
+    assert_eq!(within(LITTLE, || releasable(&out_of_reach())), Ok(0));
+    assert_eq!(within(LITTLE, || releasable(&SMALL_SHOP)), Ok(1));
+    for (name, plan) in twin::worst::all() {
+        let base = plan.bytes();
+        let count = if name == "sixes" { 16 } else { 0 };
+        assert_eq!(within(LITTLE, move || releasable(&base)), Ok(count));
+    }
 }
 
 #[test]

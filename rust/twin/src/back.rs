@@ -1,30 +1,39 @@
-//! From a level's cell that meets the condition back to its entries.
+//! From a multiset of roles that meets a clause back to a group's entries.
 
-use crate::levels::{Level, NextEnds, Weights, SETS};
+use crate::allowed::Allowed;
+use crate::ends::NextEnds;
+use crate::multisets::{rank_without, roles_of};
+use crate::MOST;
 
-/// The cell of the level before from which a cell with this end came, and the
-/// role of the entry that leads on.
-pub fn step_back(
-    next_ends: &NextEnds,
-    w: Weights,
-    level: &Level,
-    there: usize,
-    end: u8,
-) -> Option<(usize, u8)> {
-    let mut ways = (0..8)
-        .zip(w)
-        .flat_map(|(role, x)| cells_before(there, role, x).map(move |cell| (cell, role)));
-    ways.find(|&(cell, role)| {
-        let ends = next_ends.get(usize::from(level.ends[cell]));
-        ends.is_some_and(|ends| ends[usize::from(role)] == end)
-    })
+/// The bytes of a group that acts in the multiset of n roles with this rank.
+pub fn group(allowed: &Allowed, next_ends: &NextEnds, n: usize, rank: usize) -> [u8; 2 * MOST] {
+    let mut roles = roles_of(n, rank);
+    let mut group = [255; 2 * MOST];
+    let mut end = allowed.end(n, rank);
+    for left in (1..=n).rev() {
+        let (place, before) = step_back(allowed, next_ends, &roles, left, end);
+        group[2 * left - 2] = end - 1;
+        group[2 * left - 1] = roles[place] as u8;
+        roles.copy_within(place + 1..left, place);
+        end = before;
+    }
+    group
 }
 
-/// The cells that an entry in the role leads on from: with the role in the set
-/// already, and without.
-fn cells_before(there: usize, role: u8, x: u8) -> impl Iterator<Item = usize> {
-    let (bit, more) = (1 << role, SETS * usize::from(x));
-    let possible = x > 0 && more <= there && there & bit != 0;
-    let cells = [there, there & !bit].into_iter();
-    cells.filter(move |_| possible).map(move |cell| cell - more)
+/// The place of a role that may be the last entry's, whose user ends at `end`,
+/// and the end of the entries before.
+fn step_back(
+    allowed: &Allowed,
+    next_ends: &NextEnds,
+    roles: &[usize; MOST],
+    n: usize,
+    end: u8,
+) -> (usize, u8) {
+    for place in 0..n {
+        let before = allowed.end(n - 1, rank_without(roles, n, place));
+        if next_ends[usize::from(before)][roles[place]] == end {
+            return (place, before);
+        }
+    }
+    (0, 0)
 }

@@ -1,163 +1,235 @@
-//! How often a search that finds no group does what costs time.
+//! How often a report does what costs time.
 
-use crate::conditions::{conditions, Clause};
-use crate::levels::{heaviest, sets, NextEnds, Weights, SETS, UNREACHED};
+use model::Context;
+
+use crate::allowed::Allowed;
+use crate::asked::asked;
+use crate::base::Base;
+use crate::ends::{next_ends, NextEnds, NOBODY};
+use crate::masks::{mark, role_nums};
+use crate::multisets::{how_many, in_chunks, BYTES, CHUNK, UPS};
+use crate::search::{add, meeting};
+use crate::weights::{all_weights, setting, weighed, Weighed, Weights};
 use crate::MOST;
 
-/// Counts for one permission, over all levels.
+/// Counts of a report, over all permissions for which a role has weight.
 #[derive(Clone, Copy, Debug, Default, PartialEq, Eq)]
 pub struct Counts {
-    /// Masks times conditions: each condition for all the numbers, sums or
-    /// sets that it asks about.
-    pub tested: usize,
-    /// Words of marks looked at, for cells to ask about and cells to grow.
-    pub words: usize,
-    /// Cells asked whether they meet a clause.
-    pub asked: usize,
-    /// Cells that grow.
+    /// Those permissions.
+    pub weighed: usize,
+    /// Conditions of their clauses.
+    pub conditions: usize,
+    /// Clauses that can be met as far as weights tell.
+    pub possible: usize,
+    /// Sums at which a clause is marked, clause by clause.
+    pub marked: usize,
+    /// Masks of sets of roles, and those that numbers of roles are struck from.
+    pub sets: usize,
+    pub by_number: usize,
+    /// Levels whose sums are made, and their multisets.
+    pub levels: usize,
+    pub added: usize,
+    /// Multisets looked at, in whole chunks.
+    pub scanned: usize,
+    /// Multisets whose least end is made, for all permissions at once.
+    pub made: usize,
+    /// Those that some group acts in, and to which a role is added.
     pub grown: usize,
-    /// Growths in a role that has weight.
-    pub growths: usize,
-    /// Those that end before the ones to the same cell so far.
-    pub improved: usize,
+    /// Entries shown.
+    pub shown: usize,
 }
 
-/// The counts by who comes next, the roles' weights and the permission's
-/// clauses: those of the search in whole tables, found by the reached cells
-/// alone.
-pub fn counts(next_ends: &NextEnds, w: Weights, clauses: &[Clause]) -> Counts {
-    let mut counts = Counts {
-        tested: tested(w, clauses),
-        ..Counts::default()
-    };
-    let mut level = vec![(0, 0, 0)];
-    let mut ends = vec![[UNREACHED; SETS]; 1 + MOST * heaviest(w)];
-    for n in 0..MOST {
-        counts.words += words(n * heaviest(w)) + words((n + 1) * heaviest(w));
-        counts.grown += level.len();
-        level = next_level(next_ends, w, &level, &mut ends, &mut counts);
-        counts.asked += level.len();
+impl Counts {
+    /// In the order above.
+    pub fn numbers(&self) -> [usize; 12] {
+        [
+            self.weighed,
+            self.conditions,
+            self.possible,
+            self.marked,
+            self.sets,
+            self.by_number,
+            self.levels,
+            self.added,
+            self.scanned,
+            self.made,
+            self.grown,
+            self.shown,
+        ]
     }
-    counts
 }
 
-fn tested(w: Weights, clauses: &[Clause]) -> usize {
-    let masks = |attribute| match attribute {
-        0 => 1 + MOST,
-        1 => 1 + MOST * heaviest(w),
-        _ => sets(w),
+/// The counts of a report on a base that passes the check.
+pub fn counts(base: &[u8], at: Context) -> Counts {
+    let base = Base::read(base).expect("the base passes");
+    let (mut sets, mut ends) = ([0; BYTES], [0; BYTES]);
+    let mut ups = [[0; 8]; UPS];
+    let mut counting = Counting {
+        base: &base,
+        next_ends: next_ends(&base),
+        allowed: Allowed::new(base.roles.into(), &mut sets, &mut ends, &mut ups),
+        counts: Counts::default(),
     };
-    let all = clauses.iter().flat_map(conditions);
-    all.map(|condition| masks(condition[0])).sum()
+    let w = all_weights(&base, &setting(&base, at));
+    for (permission, w) in w.iter().enumerate().take(base.permissions.len()) {
+        counting.count(permission, w);
+    }
+    counting.counts
 }
 
-/// Words of marks for sums up to `top`.
-fn words(top: usize) -> usize {
-    SETS / 64 * (top + 1)
+struct Counting<'a> {
+    base: &'a Base<'a>,
+    next_ends: NextEnds,
+    allowed: Allowed<'a>,
+    counts: Counts,
 }
 
-/// The reached cells of the next level in their order: sum, set and end.
-/// `ends` holds 255 throughout, before and after.
-fn next_level(
-    next_ends: &NextEnds,
-    w: Weights,
-    level: &[(usize, u8, u8)],
-    ends: &mut [[u8; SETS]],
-    counts: &mut Counts,
-) -> Vec<(usize, u8, u8)> {
-    let mut reached = Vec::new();
-    for &(sum, set, end) in level {
-        for (role, x) in w.into_iter().enumerate().filter(|&(_, x)| x > 0) {
-            counts.growths += 1;
-            let end = next_ends[usize::from(end)][role];
-            let (sum, set) = (sum + usize::from(x), set | 1 << role);
-            let place = &mut ends[sum][usize::from(set)];
-            if end < *place {
-                counts.improved += 1;
-                if *place == UNREACHED {
-                    reached.push((sum, set, UNREACHED));
+impl Counting<'_> {
+    /// Counts what one permission adds.
+    fn count(&mut self, permission: usize, w: &Weights) {
+        let weighed = weighed(w);
+        if weighed.heavy == 0 {
+            return;
+        }
+        self.counts.weighed += 1;
+        self.count_clauses(permission, weighed);
+        let (mut sum_masks, mut set_masks) = ([0; 256], [0; 256]);
+        let rows = mark(
+            self.base.clauses,
+            permission,
+            weighed,
+            &role_nums(),
+            &mut sum_masks,
+            &mut set_masks,
+        );
+        let mut sums = [0; BYTES];
+        for n in 1..=rows.last() {
+            add(w, n, weighed.end, &self.allowed.places, &mut sums);
+            self.counts.levels += 1;
+            self.counts.added += how_many(n, weighed.end);
+            if rows.row(n) == 0 {
+                continue;
+            }
+            self.make_levels(n);
+            if self.allowed.most < n {
+                return;
+            }
+            let sets = self.allowed.places.level(self.allowed.sets, n, weighed.end);
+            let sums = self.allowed.places.level(&sums, n, weighed.end);
+            match meeting((&sum_masks, &set_masks), rows.row(n), sets, sums) {
+                Some(rank) => {
+                    self.counts.scanned += rank / CHUNK * CHUNK + CHUNK;
+                    self.counts.shown += n;
+                    return;
                 }
-                *place = end;
+                None => self.counts.scanned += in_chunks(how_many(n, weighed.end)),
             }
         }
     }
-    reached.sort_unstable();
-    for (sum, set, end) in &mut reached {
-        let place = &mut ends[*sum][usize::from(*set)];
-        *end = std::mem::replace(place, UNREACHED);
+
+    fn count_clauses(&mut self, permission: usize, weighed: Weighed) {
+        let (mut some, mut by_number) = (false, false);
+        let own = self.base.clauses.iter();
+        for clause in own.filter(|clause| usize::from(clause[0]) == permission) {
+            self.counts.conditions += usize::from(clause[1]);
+            let asked = asked(clause);
+            if asked.possible(weighed) == 0 {
+                continue;
+            }
+            some = true;
+            by_number |= asked.by_number();
+            self.counts.possible += 1;
+            let end = asked.end.min(MOST * weighed.heavy + 1);
+            self.counts.marked += end.saturating_sub(asked.low);
+        }
+        self.counts.sets += usize::from(some) << weighed.end;
+        self.counts.by_number += usize::from(by_number) << weighed.end;
     }
-    reached
+
+    /// Makes the levels up to n roles, as far as they are not known.
+    fn make_levels(&mut self, n: usize) {
+        let roles = usize::from(self.base.roles);
+        while self.allowed.known < n {
+            let from = self.allowed.known;
+            let reached = |rank: &usize| self.allowed.end(from, *rank) != NOBODY;
+            self.counts.grown += (0..how_many(from, roles)).filter(reached).count();
+            self.allowed.extend(&self.next_ends);
+            self.counts.made += how_many(from + 1, roles);
+        }
+    }
 }
 
 #[cfg(test)]
 mod tests {
     use super::*;
-    use crate::levels::next_ends;
+    use crate::plan::{Condition, Plan};
+    use crate::worst;
 
-    const ALL: [u32; 8] = [0xff_ffff; 8];
+    const AT: Context = Context {
+        minute: 0,
+        day: 0,
+        zone: 0,
+    };
 
-    fn search(holders: [u32; 8], w: Weights) -> Counts {
-        counts(&next_ends(&holders), w, &[])
-    }
-
-    /// A level has as many cells as there are multisets of roles: 8, 36, 120,
-    /// 330, 792 and 1,716. All ways to a cell end with the same user.
-    #[test]
-    fn with_all_roles_and_sums_apart_every_multiset_counts() {
-        let mut w = [1, 2, 5, 10, 16, 23, 33, 35];
-        let all = search(ALL, w);
-        assert!(all.asked > 2_950 && all.asked <= 3_002, "{all:?}");
-        assert_eq!(all.growths, 8 * all.grown);
-        assert_eq!(all.improved, all.asked);
-        w[7] = 0;
-        assert!(search(ALL, w).asked <= 1_715);
-    }
-
-    #[test]
-    fn marks_are_looked_at_as_far_as_sums_can_go() {
-        let mut w = [0; 8];
-        assert_eq!(search(ALL, w).words, 4 * 12);
-        w[3] = 40;
-        let up_to_six = 1 + 2 + 3 + 4 + 5 + 6;
-        let up_to_five = 1 + 2 + 3 + 4 + 5;
-        let words = 4 * (40 * (up_to_six + up_to_five) + 12);
-        assert_eq!(search([0; 8], w).words, words);
-    }
-
-    #[test]
-    fn without_weights_nothing_is_reached() {
-        let none = search(ALL, [0; 8]);
-        assert_eq!((none.asked, none.grown, none.growths), (0, 1, 0));
-    }
-
-    #[test]
-    fn whoever_stands_late_is_followed_by_nobody() {
-        let mut holders = [0; 8];
-        holders[0] = 1 << 23;
-        let late = search(holders, [1; 8]);
-        assert_eq!((late.asked, late.grown), (1, 2));
-        assert_eq!((late.growths, late.improved), (16, 1));
-    }
-
-    /// Three users, in roles 1, 0 and 1. An entry in each role ends with the
-    /// second user or the third: it is the lighter role's that is tried first.
-    #[test]
-    fn a_cell_is_improved_by_a_later_way() {
-        let of_weights = |x, y| search([0b010, 0b101, 0, 0, 0, 0, 0, 0], [x, y, 0, 0, 0, 0, 0, 0]);
-        let (third_first, second_first) = (of_weights(1, 2), of_weights(2, 1));
-        assert_eq!((third_first.asked, third_first.improved), (5, 6));
-        assert_eq!((second_first.asked, second_first.improved), (5, 5));
-    }
-
-    #[test]
-    fn a_condition_is_tested_for_all_that_it_asks_about() {
-        let clause = |attributes: [u8; 4]| {
-            let [a, b, c, d] = attributes;
-            [0, 4, a, 0, 0, b, 0, 0, c, 0, 0, d, 0, 0, 0, 0]
+    /// Users of every role, and two permissions: role 7 weighs 2, the others 4.
+    fn counts_of(users: usize, conditions: &[Condition]) -> Counts {
+        let all = (0..16).map(|i| (i % 8, i / 8, if i % 8 == 7 { 2 } else { 4 }, 0));
+        let plan = Plan {
+            permissions: 2,
+            users: vec![255; users],
+            policies: all.collect(),
+            clauses: vec![(0, conditions.to_vec()), (1, conditions.to_vec())],
+            ..Plan::default()
         };
-        let w = [5, 0, 0, 2, 0, 0, 0, 0];
-        let clauses = [clause([0; 4]), clause([1; 4]), clause([2, 3, 2, 3])];
-        let all = counts(&next_ends(&ALL), w, &clauses);
-        assert_eq!(all.tested, 4 * (7 + 31 + 16));
+        counts(&plan.bytes(), AT)
+    }
+
+    #[test]
+    fn what_no_weights_allow_is_not_looked_for() {
+        let spread = counts(&worst::spread().bytes(), AT);
+        let found = Counts {
+            weighed: 16,
+            conditions: 256,
+            ..Counts::default()
+        };
+        assert_eq!(spread, found);
+    }
+
+    /// One entry weighs less than 7 and four weigh more. There are 36 multisets
+    /// of two roles and 120 of three, looked at by 32.
+    #[test]
+    fn an_odd_sum_is_looked_for_with_two_and_three() {
+        let found = Counts {
+            weighed: 2,
+            conditions: 2,
+            possible: 2,
+            marked: 2,
+            sets: 512,
+            levels: 2 * 3,
+            added: 2 * (8 + 36 + 120),
+            scanned: 2 * (64 + 128),
+            made: 8 + 36 + 120,
+            grown: 1 + 8 + 36,
+            ..Counts::default()
+        };
+        assert_eq!(counts_of(6, &[(1, 4, 7)]), found);
+        assert_eq!(counts_of(3, &[(1, 4, 7)]), found);
+        let two_users = Counts {
+            scanned: 2 * 64,
+            ..found
+        };
+        assert_eq!(counts_of(2, &[(1, 4, 7)]), two_users);
+    }
+
+    /// The first multiset of four roles is four times role 0, the last of 330
+    /// four times role 7, whose sum is 8.
+    #[test]
+    fn a_group_ends_the_search() {
+        let first = counts_of(6, &[(0, 4, 4)]);
+        assert_eq!((first.scanned, first.shown), (2 * 32, 8));
+        assert_eq!((first.added, first.grown), (2 * 494, 1 + 8 + 36 + 120));
+        let last = counts_of(6, &[(0, 4, 4), (2, 4, 1), (1, 3, 8)]);
+        assert_eq!((last.scanned, last.shown), (2 * 352, 8));
+        assert_eq!((last.marked, last.by_number), (2 * 9, 512));
     }
 }

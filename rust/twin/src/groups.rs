@@ -2,8 +2,7 @@
 
 use crate::base::Base;
 use crate::conditions::holds;
-use crate::levels::Weights;
-use crate::weights::{role_weights, Setting};
+use crate::weights::{role_weights, Setting, Weights};
 use crate::{CODES, MOST};
 
 /// 0 where the group is granted, else the first of refusals 12 to 17 that

@@ -1,29 +1,27 @@
 //! The library's calls in plain Rust, tuned: the same tables, the same steps.
 //! For measuring what a call costs, and which bases cost most.
 
+mod allowed;
+mod asked;
 mod back;
 mod base;
 mod check;
 mod conditions;
 pub mod counts;
+mod ends;
 mod groups;
-pub mod levels;
 mod masks;
+mod multisets;
 mod operators;
 pub mod plan;
 mod related;
 mod rows;
 mod search;
-pub mod weights;
+mod weights;
 pub mod worst;
 
+use base::Base;
 use model::{Answer, Context};
-
-pub use base::Base;
-use levels::{heaviest, next_ends, sets, NextEnds};
-use masks::masks;
-use search::{search, Found, Wanted};
-use weights::Setting;
 
 /// The identity codes of roles 0 to 7.
 const CODES: [u32; 8] = [3, 5, 7, 11, 13, 17, 19, 23];
@@ -88,39 +86,17 @@ pub fn report(base: &[u8], at: Context, out: &mut [u8]) -> Answer {
     if out.len() < RECORD * base.permissions.len() {
         return refused(19);
     }
-    let count = fill(&base, at, out.as_chunks_mut().0);
+    let records = &mut out.as_chunks_mut().0[..base.permissions.len()];
+    let count = fill(&base, at, records);
     Answer { refusal: 0, count }
 }
 
 /// Writes the records; the number of permissions that have a group.
+#[inline(never)]
 fn fill(base: &Base, at: Context, records: &mut [[u8; RECORD]]) -> u32 {
-    let setting = weights::setting(base, at);
-    let next_ends = next_ends(&weights::holders(base));
-    let mut count = 0;
-    for (permission, record) in (0..base.permissions.len() as u8).zip(records) {
-        let found = smallest(base, &setting, &next_ends, permission);
-        record[0] = found.size as u8;
-        record[1..].copy_from_slice(&found.group);
-        count += u32::from(found.size > 0);
-    }
-    count
-}
-
-/// A smallest group that is granted the permission.
-fn smallest(base: &Base, setting: &Setting, next_ends: &NextEnds, permission: u8) -> Found {
-    let w = weights::role_weights(base, setting, permission);
-    if heaviest(w) == 0 {
-        return search::NONE;
-    }
-    let top = MOST * heaviest(w);
-    match masks(base.clauses, permission, top, sets(w)) {
-        Some(masks) => search(Wanted {
-            masks: &masks,
-            next_ends,
-            w,
-        }),
-        None => search::NONE,
-    }
+    let w = weights::all_weights(base, &weights::setting(base, at));
+    let next_ends = ends::next_ends(base);
+    search::fill(base, &w, &next_ends, records)
 }
 
 #[cfg(test)]

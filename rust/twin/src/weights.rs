@@ -1,12 +1,12 @@
-//! What a base and a context fix: each role's weight for a permission, and
-//! the users who may act in each role.
+//! What a base and a context fix: each role's weight for each permission.
 
 use model::Context;
 
 use crate::base::Base;
-use crate::levels::{Holders, Weights};
 use crate::operators::is_met;
-use crate::CODES;
+
+/// Each role's weight.
+pub type Weights = [u8; 8];
 
 /// The context numbers that hold, as a set, and each role's juniors.
 pub struct Setting {
@@ -50,6 +50,7 @@ pub fn juniors(hierarchy: &[[u8; 2]]) -> [u8; 8] {
 }
 
 /// The weights of all roles for a permission.
+#[inline(never)]
 pub fn role_weights(base: &Base, setting: &Setting, permission: u8) -> Weights {
     let (mut own, mut inh) = ([0; 8], [0; 8]);
     for &[role, of, weight, kind, context, ..] in base.policies {
@@ -77,15 +78,60 @@ fn handed_on(inh: [u8; 8], juniors: u8) -> u8 {
     inh.into_iter().enumerate().map(of).sum()
 }
 
-/// For each role the set of the users who may act in it.
-pub fn holders(base: &Base) -> Holders {
-    let mut holders = [0; 8];
-    for (user, parameter) in base.users.iter().enumerate() {
-        let parameter = u32::from_le_bytes(*parameter);
-        for (role, code) in CODES.into_iter().enumerate() {
-            let held = role < base.roles.into() && parameter % code == 0;
-            holders[role] |= u32::from(held) << user;
+/// The weights of all roles for all permissions, in one pass over the policies.
+pub fn all_weights(base: &Base, setting: &Setting) -> [Weights; 16] {
+    let (mut own, mut inh) = ([[0; 8]; 16], [[0; 8]; 16]);
+    for &[role, permission, weight, kind, context, ..] in base.policies {
+        if context != 255 && setting.contexts >> (context & 31) & 1 == 0 {
+            continue;
+        }
+        let (p, r) = (usize::from(permission & 15), usize::from(role & 7));
+        keep_first(&mut own[p][r], weight);
+        if kind == 1 {
+            keep_first(&mut inh[p][r], weight);
         }
     }
-    holders
+    let mut w = own;
+    for (w, inh) in w.iter_mut().zip(&inh).take(base.permissions.len()) {
+        hand_on(w, inh, &setting.juniors);
+    }
+    w
+}
+
+/// Adds to each role's weight what its juniors hand on.
+fn hand_on(w: &mut Weights, inh: &[u8; 8], juniors: &[u8; 8]) {
+    for (junior, inh) in inh.iter().enumerate().filter(|(_, inh)| **inh > 0) {
+        for (w, juniors) in w.iter_mut().zip(juniors) {
+            *w += (juniors >> junior & 1) * inh;
+        }
+    }
+}
+
+/// What a permission's roles weigh: the least and the largest weight, the
+/// roles with weight as a set, and one past the last of them.
+#[derive(Clone, Copy)]
+pub struct Weighed {
+    pub light: usize,
+    pub heavy: usize,
+    pub roles: u8,
+    pub end: usize,
+}
+
+pub fn weighed(w: &Weights) -> Weighed {
+    let mut weighed = Weighed {
+        light: 255,
+        heavy: 0,
+        roles: 0,
+        end: 0,
+    };
+    for (r, &x) in w.iter().enumerate() {
+        let x = usize::from(x);
+        if x > 0 {
+            weighed.light = weighed.light.min(x);
+            weighed.heavy = weighed.heavy.max(x);
+            weighed.roles |= 1 << r;
+            weighed.end = r + 1;
+        }
+    }
+    weighed
 }

@@ -1,6 +1,6 @@
-//! The bases whose reports cost most, as far as a search found them. All
-//! permissions with policies have the same weights, and every level is made
-//! for each.
+//! Bases found by climbing to cost most in a search over sums and sets of
+//! roles. All permissions with policies have the same weights, and no group
+//! meets a clause, or only groups of six do.
 
 use crate::plan::{Condition, Plan};
 
@@ -16,9 +16,9 @@ const ROLE_NUMS: [Condition; 4] = [(2, 3, 9), (2, 3, 9), (2, 3, 9), (2, 2, 9)];
 /// The same on the roles: six entries don't have all eight.
 const ROLES: [Condition; 4] = [(3, 6, 0), (3, 6, 0), (3, 6, 0), (3, 6, 255)];
 
-/// The same on the number of roles for all sums but 102, which only six entries in the heaviest role
-/// have: the last cell of all.
-const LAST_CELL: [Condition; 4] = [(2, 3, 9), (2, 3, 9), (2, 3, 9), (1, 2, 102)];
+/// The same on the number of roles for all sums but 102, the highest, which
+/// only six entries in the heaviest role have.
+const HIGHEST_SUM: [Condition; 4] = [(2, 3, 9), (2, 3, 9), (2, 3, 9), (1, 2, 102)];
 
 /// Users, each role's direct juniors, and roles with their weights in the
 /// policies of a permission.
@@ -29,10 +29,9 @@ struct Shop<'a> {
     policies: &'a [(u8, u8)],
 }
 
-/// The roles weigh 17, 14, 12, 9, 8, 3, 4 and 5, and of the 3,002 cells that
-/// six entries could reach they reach 2,960. Who holds a heavy role stands
-/// early or late, so that nearly every way to a cell ends before the ones so
-/// far.
+/// The roles weigh 17, 14, 12, 9, 8, 3, 4 and 5: of the 3,002 multisets of up
+/// to six roles hardly two have the same number, sum and set. Who holds a heavy
+/// role stands early or late.
 const SPREAD: Shop = Shop {
     users: &[
         3, 15, 15, 23, 28, 16, 152, 208, 192, 112, 96, 224, 56, 224, 148, 206, 18, 93, 116, 54, 3,
@@ -43,7 +42,7 @@ const SPREAD: Shop = Shop {
 };
 
 /// The same where users have two to four roles: the roles weigh 14, 17, 10,
-/// 12, 9, 3, 4 and 5, and reach 2,954 cells.
+/// 12, 9, 3, 4 and 5.
 const FEW_ROLES: Shop = Shop {
     users: &[
         10, 7, 3, 11, 13, 20, 24, 156, 208, 192, 96, 96, 224, 112, 100, 228, 116, 140, 225, 131,
@@ -54,7 +53,7 @@ const FEW_ROLES: Shop = Shop {
 };
 
 /// Twice the policies a permission: the roles weigh 38, 28, 23, 24, 19, 9, 4
-/// and 5, and reach 2,989 cells.
+/// and 5.
 const HEAVY: Shop = Shop {
     users: &[
         15, 27, 31, 62, 180, 192, 128, 96, 160, 80, 160, 180, 220, 180, 172, 22, 202, 66, 161, 161,
@@ -126,12 +125,12 @@ pub fn capped() -> Plan {
     plan(SPREAD, CAPS)
 }
 
-/// The same with a group of six for each permission, found by the last clause
-/// at the last cell.
+/// The same with a group of six for each permission, by the last clause and
+/// with the highest sum.
 pub fn sixes() -> Plan {
     let mut plan = spread();
     for (_, conditions) in &mut plan.clauses[48..] {
-        *conditions = LAST_CELL.to_vec();
+        *conditions = HIGHEST_SUM.to_vec();
     }
     plan
 }
@@ -188,10 +187,6 @@ fn hierarchy(juniors: [u8; 8]) -> Vec<(u8, u8)> {
 #[cfg(test)]
 mod tests {
     use super::*;
-    use crate::base::Base;
-    use crate::counts::{counts, Counts};
-    use crate::levels::next_ends;
-    use crate::weights::{holders, role_weights, setting};
     use model::Context;
 
     const AT: Context = Context {
@@ -219,49 +214,5 @@ mod tests {
     fn each_user_has_two_to_four_roles() {
         let mut users = FEW_ROLES.users.iter();
         assert!(users.all(|roles| (2..=4).contains(&roles.count_ones())));
-    }
-
-    /// The counts that the search for the worst base ended with, for each
-    /// permission with policies. Each clause stands there four times.
-    fn expect_counts(plan: &Plan, permissions: u8, w: [u8; 8], found: Counts) {
-        let bytes = plan.bytes();
-        let base = Base::read(&bytes).expect("the base passes");
-        let clauses = [base.clauses[0]; 4];
-        for permission in 0..permissions {
-            let weights = role_weights(&base, &setting(&base, AT), permission);
-            assert_eq!(weights, w);
-            let next_ends = next_ends(&holders(&base));
-            assert_eq!(counts(&next_ends, weights, &clauses), found);
-        }
-    }
-
-    #[test]
-    fn nearly_every_multiset_of_roles_is_reached() {
-        let found = Counts {
-            tested: 4_096,
-            words: 2_496,
-            asked: 2_960,
-            grown: 1_284,
-            growths: 10_272,
-            improved: 9_588,
-        };
-        expect_counts(&spread(), 16, [17, 14, 12, 9, 8, 3, 4, 5], found);
-        let found = Counts {
-            asked: 2_954,
-            grown: 1_283,
-            growths: 10_264,
-            improved: 9_772,
-            ..found
-        };
-        expect_counts(&few_roles(), 16, [14, 17, 10, 12, 9, 3, 4, 5], found);
-        let found = Counts {
-            words: 5_520,
-            asked: 2_989,
-            grown: 1_287,
-            growths: 10_296,
-            improved: 9_576,
-            ..found
-        };
-        expect_counts(&heavy(), 8, [38, 28, 23, 24, 19, 9, 4, 5], found);
     }
 }

@@ -9,9 +9,10 @@ use twin::worst;
 
 #[test]
 fn bases_whose_reports_cost_most() {
-    for plan in [worst::spread(), worst::gathered()] {
+    for (name, plan) in worst::all() {
         let base = plan.bytes();
-        expect_report(&base, at_minute(0), 16 * RECORD, &[0; 16]);
+        let k = if name == "sixes" { 6 } else { 0 };
+        expect_report(&base, at_minute(0), 16 * RECORD, &[k; 16]);
         expect_report_refused(&base, at_minute(0), 16 * RECORD - 1, 19);
         expect_report_refused(&base, at_minute(1440), 16 * RECORD, 11);
     }
@@ -30,7 +31,7 @@ fn spread_with(conditions: &[GroupCondition]) -> Vec<u8> {
 /// of them and no other's. 90 is five times 17 and 5; 85 is five times 17; two
 /// roles weigh 3 and 4.
 #[test]
-fn a_group_among_the_most_cells() {
+fn a_group_among_the_most_sums() {
     for (conditions, k) in [
         (vec![(1, 2, 103)], 0),
         (vec![(1, 2, 102)], 6),

@@ -1,14 +1,20 @@
-//! Edges of the report. Each number is worked out from the rules, and the
-//! library and the model must both give it; the group that the library shows
-//! must be granted by both.
+//! Edges of the report. Each number is worked out from the rules, and library,
+//! twin and model must give it; the groups that library and twin show must be
+//! granted by library and model.
 
 mod buffers;
+mod caps;
 mod clauses;
 mod greatest;
 mod groups;
+mod multisets;
+mod permissions;
 mod refusals;
+mod role_sets;
 mod setups;
+mod sharing;
 mod shop;
+mod sizes;
 mod sparse;
 mod sums;
 mod weights;

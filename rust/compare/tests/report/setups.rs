@@ -68,3 +68,49 @@ pub fn base_of(weights: &[u8], users: Vec<User>, clauses: &[&[GroupCondition]]) 
 pub fn alike(count: usize, conditions: &[GroupCondition]) -> BaseBuilder {
     base_of(&[1], vec![user(&[0]); count], &[conditions])
 }
+
+/// The base with more roles before or behind, which nobody holds and which
+/// have no weight.
+fn with_roles(base: &BaseBuilder, before: u8, behind: u8) -> BaseBuilder {
+    let mut base = base.clone();
+    base.roles += before + behind;
+    for user in &mut base.users {
+        let held = (0..8).filter(|&role| user.parameter % CODES[role] == 0);
+        let codes = held.map(|role| CODES[role + usize::from(before)]);
+        user.parameter = codes.product();
+    }
+    for edge in &mut base.hierarchy {
+        edge.senior += before;
+        edge.junior += before;
+    }
+    for policy in &mut base.policies {
+        policy.role += before;
+    }
+    let conditions = base
+        .group_clauses
+        .iter_mut()
+        .flat_map(|c| &mut c.conditions);
+    for condition in conditions.filter(|condition| condition.0 == 3) {
+        condition.2 <<= before;
+    }
+    base
+}
+
+/// Expects these smallest numbers at minute 600, and the same with more roles
+/// before or behind, up to eight.
+pub fn expect_with_more_roles(base: &BaseBuilder, numbers: &[u8]) {
+    expect_numbers(base, numbers);
+    for more in 1..=8 - base.roles {
+        for before in [0, more / 2, more] {
+            let bytes = with_roles(base, before, more - before).bytes();
+            expect_report(&bytes, at_minute(600), RECORD * numbers.len(), numbers);
+        }
+    }
+}
+
+/// A base of one permission, and the number that is expected of it with more
+/// roles too.
+pub fn expect_one(weights: &[u8], users: &[&[u8]], clauses: &[&[GroupCondition]], k: u8) {
+    let users = users.iter().map(|roles| user(roles)).collect();
+    expect_with_more_roles(&base_of(weights, users, clauses), &[k]);
+}

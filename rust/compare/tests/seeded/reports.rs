@@ -2,6 +2,7 @@
 //! short, just long enough and longer.
 
 use compare::builder::BaseBuilder;
+use compare::capped::capped_base;
 use compare::damage::*;
 use compare::lent::Lent;
 use compare::lively::{full_base, heavy_base, lively_base};
@@ -17,7 +18,7 @@ use twin::worst;
 use crate::seen::{Call, Seen};
 
 pub fn compare(seen: &mut Seen) {
-    sound_bases(9_000, |random, records| {
+    sound_bases(12_000, |random, records| {
         compare_sound(seen, random, records)
     });
     damaged_bases(seen);
@@ -71,10 +72,10 @@ fn context_out_of_range(random: &mut Random, records: &BaseBuilder) -> Context {
     outside.expect("one in twelve is out of range")
 }
 
-/// A base with few users, one of any size, a lively, a sparse, a heavy or a
-/// full one.
+/// A base with few users, one of any size, a lively, a sparse, a capped, a
+/// heavy or a full one.
 fn sound_base(random: &mut Random) -> BaseBuilder {
-    match random.below(24) {
+    match random.below(32) {
         0 => random_base(random, Size::Empty),
         1..=3 => random_base(random, Size::Small),
         4 => random_base(random, Size::Any),
@@ -83,7 +84,11 @@ fn sound_base(random: &mut Random) -> BaseBuilder {
         7..=11 => sparse_base(random, 24),
         12..=13 => sparse_base(random, 6),
         14..=15 => lively_base(random, 24),
-        _ => lively_base(random, 6),
+        16..=23 => lively_base(random, 6),
+        _ => {
+            let roles = random.between(1, 8);
+            capped_base(random, roles)
+        }
     }
 }
 
