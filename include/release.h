@@ -25,8 +25,8 @@
  * number of threads may call at once, also with the same base, each with a
  * buffer of its own.
  *
- * Stack. release_report takes about 570,000 bytes, every other call less than
- * 4,096. A thread with 1 MiB of stack suffices for each.
+ * Stack. release_report takes about 30,000 bytes, every other call less than
+ * 4,096. A thread with 64 KiB of stack suffices for each.
  */
 #ifndef RELEASE_H
 #define RELEASE_H
