@@ -1,5 +1,4 @@
-// A permission's clauses, struck out of the masks of what their conditions aren't met by. A mask has bit i for clause
-// i.
+// A permission's clauses, struck out of the masks of what their conditions aren't met by. Bit i is for clause i.
 use weights::operators;
 ghost use mathlib.Core.Path.{_≡_};
 ghost use mathlib.Core.Bool.{true};
