@@ -34,8 +34,8 @@ fn wide(x: u8) -> u32
     x as u32
 }
 
-// Inner: condition j of clause i.
-pub fn condition_holds(k: &[u8], i: usize, j: usize, n: u32, sum: u32, set: u8) -> bool
+// Condition j of clause i.
+fn condition_holds(k: &[u8], i: usize, j: usize, n: u32, sum: u32, set: u8) -> bool
     requires { ⌜ (16 * i + 16 ≤ length (now k)) × (j < 4) ⌝ }
     ensures { λ r. ⌜ r ≡ conditionHolds (now (k .entry)) n sum set i j ⌝ }
 {

@@ -17,7 +17,7 @@ use Rattle.folds.specs.Below.{anyBelow}
 use Rattle.folds.proofs.Bools.{met-or-not, clash, and-left, and-right, and-both}
 use Rattle.folds.proofs.Tests.{any-some}
 use Rattle.folds.proofs.Sets.{in-and, in-or, in-none, meet-some}
-use Rattle.multisets.specs.Search.{metBy, metAt, SomeMet, FoundIn}
+use Rattle.multisets.specs.Search.{Tables, metBy, metAt, SomeMet, FoundIn}
 
 below-power : (n : ℕ) → n < 2 ^ n
 below-power zero = lit< tt
@@ -116,3 +116,18 @@ module _ {test : ℕ → Bool} {from x : ℕ} (none : (y : ℕ) → from ≤ y �
     met = f .met;
     none = λ e. absurd (omega arith);
   }
+
+-- fewer places have room where more have
+pub fewer : {room k : ℕ} {ends sums roles by-sum by-set : List ℕ} → Tables room ends sums roles by-sum by-set → k ≤ room →
+    Tables k ends sums roles by-sum by-set
+fewer t h =
+    let a = t .ends-room in
+    let b = t .sums-room in
+    let c = t .roles-room in
+    record {
+      ends-room = omega arith;
+      sums-room = omega arith;
+      roles-room = omega arith;
+      sum-masks = t .sum-masks;
+      set-masks = t .set-masks;
+    }

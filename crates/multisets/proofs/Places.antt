@@ -54,7 +54,7 @@ pub first-mono : (d e n : ℕ) → d ≤ e → first d n ≤ first e n
 first-mono d e zero h = rw (first-0 d, first-0 e) (omega arith)
 first-mono d e (suc n) h = rw (first-is d n, first-is e n) (starts-le n (suc d) (suc e) (omega arith))
 
--- for at most eight roles there are 3,003 places in all, 1,287 of at most five roles and 495 of at most four
+-- for at most eight roles there are 3,003 places in all, and 1,287 of at most five roles
 all-places : first 8 7 ≡ 3003
 unfolding first sumBelow starts
 all-places = refl
@@ -62,10 +62,6 @@ all-places = refl
 five-places : first 8 6 ≡ 1287
 unfolding first sumBelow starts
 five-places = refl
-
-pub four-places : first 8 5 ≡ 495
-unfolding first sumBelow starts
-four-places = refl
 
 pub first-all : (d : ℕ) → d ≤ 8 → first d 7 ≤ 3003
 first-all d h = omega (arith, first-mono d 8 7 h, all-places)

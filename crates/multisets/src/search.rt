@@ -12,7 +12,8 @@ ghost use Rattle.multisets.specs.Ranks.{first, Starts};
 ghost use Rattle.multisets.specs.Ends.{NextEnds};
 ghost use Rattle.multisets.specs.Values.{Held, sumAt};
 ghost use Rattle.multisets.specs.Levels.{Levels};
-ghost use Rattle.multisets.specs.Search.{Tables, metBy, byMasks, metAt, SomeMet, FoundIn, Ready, TriedAt, Answered};
+ghost use Rattle.multisets.specs.Search.{Tables, metBy, byMasks, metAt, SomeMet, FoundIn};
+ghost use Rattle.multisets.specs.Search.{Ready, TriedAt, Answered};
 
 // Some clause of the row is met by the sum and by the set of place x, and it is reached.
 fn met_at(

@@ -1,5 +1,5 @@
-// The fewest entries that meet a permission's condition, among any users and from any entries placed before. It knows no
-// base.
+// The fewest entries that meet a permission's condition, among any users and from any entries placed before. It knows
+// no base.
 use crate::weighing;
 use masks::Placed;
 use multisets::search::Found;
@@ -40,8 +40,8 @@ fn nothing(known: usize) -> Found
     }
 }
 
-// Inner: the fewest entries more, with those placed at most six, that meet the permission's condition with them, by a table
-// K that passed the check; among users by their next ends and roles below d. The tables are those of the search.
+// Inner: the fewest entries more that, with those placed at most six, meet the permission's condition with them, by a
+// table K that passed the check; among users by their next ends and roles below d. The tables are those of the search.
 pub fn fewest(
     k: &[u8],
     permission: u8,
@@ -64,7 +64,8 @@ pub fn fewest(
         × Levels d known (now nexts) (now t) (now ends) (now from) (now roles)
         ⌝ }
     ensures { λ f. ⌜
-        Levels d (f .known) (now (nexts .entry)) (now (t .exit)) (now (ends .exit)) (now (from .exit)) (now (roles .exit))
+        Levels d (f .known) (now (nexts .entry))
+        (now (t .exit)) (now (ends .exit)) (now (from .exit)) (now (roles .exit))
         × ((sets : List ℕ) → NextEnds sets (now (nexts .entry)) →
         Answered sets w (start .sum) (holdsWith (now (k .entry)) permission start) (6 - start .count) (f .n) (f .group))
         ⌝ }

@@ -4,12 +4,8 @@ use mathlib.Core.Path.{_≡_, refl, sym, ap, _∙_}
 use mathlib.Core.List.{List}
 use native.Mathlib.Omega.{arith}
 use lib.ListN.{length, getD, set, length-set}
-use mathlib.Core.Logic.{⊎-elim}
-use borrow.Author.Tests.{eqb-true, eqb-false}
-use lib.Dec.{eqb}
-use lib.Seq.{getD-set-same, getD-set-other}
 use native.Mathlib.Nat.{le-trans}
-use Rattle.folds.proofs.Bools.{met-or-not}
+use Rattle.folds.proofs.Lists.{stored}
 use Rattle.multisets.specs.Ranks.{starts}
 use Rattle.multisets.specs.Levels.{Fixed}
 use Rattle.multisets.proofs.Rows.{starts-more}
@@ -33,16 +29,13 @@ turn-more {n} {r} {low} {q} {x} {a} t l is = record {
   small = t .small;
   within = omega arith;
   size = length-set a q x ∙ t .size;
-  below = λ k h m. stored (λ y. y ≡ low) k m (λ e. is .0 (rw (← e) h)) (λ b. t .below k h b);
-  above = λ k h m. stored (λ y. y ≡ starts (suc (suc n)) k) k m (λ e. rw e (is .1 (rw (← e) h))) (λ b. t .above k h b);
-  most = λ k m. stored (λ y. y ≤ 3003) k m (λ e. is .2) (λ b. t .most k b);
+  below = λ k h m. stored a q x (λ k y. k < r → y ≡ low) there (λ k l h. t .below k h l) (is .0) k m h;
+  above = λ k h m. stored a q x (λ k y. r ≤ k → y ≡ starts (suc (suc n)) k) there (λ k l h. t .above k h l) (is .1) k m h;
+  most = stored a q x (λ k y. y ≤ 3003) there (t .most) (is .2);
 }
   where
-    stored : (Q : ℕ → Type 0) (k : ℕ) → k < q + 1 → (k ≡ q → Q x) → (k < q → Q (getD a k 0)) → Q (getD (set a q x) k 0)
-    stored Q k m same other = ⊎-elim
-        (λ b. let e : k ≡ q = eqb-true k q b in rw (e, getD-set-same a q x 0 (omega (arith, t .size))) (same e))
-        (λ b. let ne = eqb-false k q b in rw (getD-set-other a q k x 0 ne) (other (omega (arith, ne))))
-        (met-or-not (eqb k q))
+    there : q < length a
+    there = omega (arith, t .size)
 
 abbrev Inv-loop : tie.InvT-loop
 Inv-loop s n r low a₀ q₀ a q = Turn n r low q a

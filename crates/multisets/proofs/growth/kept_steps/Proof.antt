@@ -3,12 +3,8 @@ use Prim.Native.Nat.{ℕ, suc, _+_, _-_, _*_, _≤_, _<_}
 use mathlib.Core.Path.{_≡_, refl, sym, ap, _∙_}
 use mathlib.Core.List.{List}
 use native.Mathlib.Omega.{arith}
-use mathlib.Core.Logic.{⊎-elim}
-use borrow.Author.Tests.{eqb-true, eqb-false}
-use lib.Dec.{eqb}
 use lib.ListN.{length, getD, set, length-set}
-use lib.Seq.{getD-set-same, getD-set-other}
-use Rattle.folds.proofs.Bools.{met-or-not}
+use Rattle.folds.proofs.Lists.{stored}
 use Rattle.multisets.specs.Levels.{Kept}
 use Rattle.multisets.proofs.growth.kept_steps.Statement.{statement}
 use Rattle.multisets.proofs.growth.kept_steps.Tie as tie
@@ -25,15 +21,12 @@ turn-more : {r q x : ℕ} {a : List ℕ} → Turn r q a → q < 8 → (q < r →
 turn-more {r} {q} {x} {a} t l is = record {
   within = omega arith;
   size = length-set a q x ∙ t .size;
-  below = λ k h m. stored k m (λ e. is .0 (rw (← e) h)) (λ b. t .below k h b);
-  above = λ k h m. stored k m (λ e. is .1 (rw (← e) h)) (λ b. t .above k h b);
+  below = λ k h m. stored a q x (λ k y. k < r → y ≡ 1) there (λ k l h. t .below k h l) (is .0) k m h;
+  above = λ k h m. stored a q x (λ k y. r ≤ k → y ≡ 0) there (λ k l h. t .above k h l) (is .1) k m h;
 }
   where
-    stored : {y : ℕ} (k : ℕ) → k < q + 1 → (k ≡ q → x ≡ y) → (k < q → getD a k 0 ≡ y) → getD (set a q x) k 0 ≡ y
-    stored k m same other = ⊎-elim
-        (λ b. let e : k ≡ q = eqb-true k q b in rw (e, getD-set-same a q x 0 (omega (arith, t .size))) (same e))
-        (λ b. let ne = eqb-false k q b in rw (getD-set-other a q k x 0 ne) (other (omega (arith, ne))))
-        (met-or-not (eqb k q))
+    there : q < length a
+    there = omega (arith, t .size)
 
 abbrev Inv-loop : tie.InvT-loop
 Inv-loop r a₀ q₀ a q = Turn r q a

@@ -4,8 +4,8 @@ use mathlib.Core.Path.{_≡_, refl, sym, ap, _∙_}
 use mathlib.Core.List.{List}
 use native.Mathlib.Omega.{arith}
 use mathlib.Core.Bool.{Bool, false}
-use Rattle.multisets.specs.Search.{Tables, metBy, metAt, FoundIn}
-use Rattle.multisets.proofs.Eights.{none-past, found-past, found-within}
+use Rattle.multisets.specs.Search.{metBy, metAt, FoundIn}
+use Rattle.multisets.proofs.Eights.{none-past, found-past, found-within, fewer}
 use Rattle.multisets.proofs.search.meeting.Statement.{statement}
 use Rattle.multisets.proofs.search.meeting.Tie as tie
 
@@ -14,21 +14,6 @@ record Turn (test : ℕ → Bool) (from end x : ℕ) : Type 0 where
   low : from ≤ x
   within : x ≤ end
   none : (y : ℕ) → from ≤ y → y < x → test y ≡ false
-
--- fewer places have room where more have
-fewer : {room k : ℕ} {ends sums roles by-sum by-set : List ℕ} → Tables room ends sums roles by-sum by-set → k ≤ room →
-    Tables k ends sums roles by-sum by-set
-fewer t h =
-    let a = t .ends-room in
-    let b = t .sums-room in
-    let c = t .roles-room in
-    record {
-      ends-room = omega arith;
-      sums-room = omega arith;
-      roles-room = omega arith;
-      sum-masks = t .sum-masks;
-      set-masks = t .set-masks;
-    }
 
 abbrev Inv-loop : tie.InvT-loop
 Inv-loop ends sums roles by-sum by-set row from end x₀ x =

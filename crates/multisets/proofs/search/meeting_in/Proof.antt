@@ -7,7 +7,8 @@ use mathlib.Core.Bool.{Bool, true, false}
 use mathlib.Core.Logic.{⊎-elim}
 use native.Mathlib.Nat.{lt-irrefl, eq-or-lt-of-le, le-of-suc-le-suc}
 use native.Mathlib.Numerals.{add-one}
-use Rattle.multisets.specs.Search.{Tables, metBy, metAt, FoundIn}
+use Rattle.multisets.specs.Search.{metBy, metAt, FoundIn}
+use Rattle.multisets.proofs.Eights.{fewer}
 use Rattle.multisets.proofs.search.meeting_in.Statement.{statement}
 use Rattle.multisets.proofs.search.meeting_in.Tie as tie
 
@@ -47,21 +48,6 @@ module _ {test : ℕ → Bool} {from end x : ℕ} (turn : Turn test from end x) 
     met = λ h. e;
     none = λ q. absurd (omega arith);
   }
-
--- fewer places have room where more have
-fewer : {room k : ℕ} {ends sums roles by-sum by-set : List ℕ} → Tables room ends sums roles by-sum by-set → k ≤ room →
-    Tables k ends sums roles by-sum by-set
-fewer t h =
-    let a = t .ends-room in
-    let b = t .sums-room in
-    let c = t .roles-room in
-    record {
-      ends-room = omega arith;
-      sums-room = omega arith;
-      roles-room = omega arith;
-      sum-masks = t .sum-masks;
-      set-masks = t .set-masks;
-    }
 
 abbrev Inv-loop : tie.InvT-loop
 Inv-loop ends sums roles by-sum by-set row from end x₀ x =

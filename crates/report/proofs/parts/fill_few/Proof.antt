@@ -34,11 +34,11 @@ module _ {d : ℕ} (few : d ≤ 5) where
     blank = λ x l. getD-replicate {A = ℕ} 462 x 255 0 (omega (arith, room));
   }
 
-abbrev at-from : tie.After-from → tie.Start
-at-from c = c .before .before .before .before .before
+abbrev at-ends : tie.After-ends → tie.Start
+at-ends c = c .before .before .before .before
 
 abbrev lent : tie.After-fill-in-arg → tie.Start
-lent c = at-from (c .before .before .before)
+lent c = at-ends (c .before .before .before .before)
 
 slice-aggregate-fill-in : tie.Need-slice-aggregate-fill-in
 slice-aggregate-fill-in c = search needs

@@ -60,8 +60,11 @@ at-count c = at-juniors (c .before .before .before)
 abbrev at-wide : tie.After-wide → tie.Start
 at-wide c = at-count (c .before)
 
+abbrev at-fewest4 : tie.After-fewest-arg4 → tie.After-wide
+at-fewest4 c = c .before .before .before .before
+
 abbrev at-fewest : tie.After-fewest-arg5 → tie.After-wide
-at-fewest c = c .before .before .before .before .before
+at-fewest c = at-fewest4 (c .before)
 
 abbrev at-known7 : tie.After-slice-known7 → tie.After-fewest
 at-known7 c = c .before .before .before .before

@@ -39,8 +39,11 @@ at-last c = c .before .before .before
 abbrev at-lent : tie.After-rows → tie.After-wide
 at-lent c = c .before .before .before .before
 
+abbrev at-search4 : tie.After-search-arg4 → tie.After-rows
+at-search4 c = c .before .before .before .before
+
 abbrev at-search : tie.After-search-arg5 → tie.After-rows
-at-search c = c .before .before .before .before .before
+at-search c = at-search4 (c .before)
 
 abbrev at-end : tie.After-slice-known7 → tie.After-search
 at-end c = c .before .before .before .before
