@@ -10,13 +10,15 @@ use Rattle.folds.proofs.Bools.{met-or-not}
 use Rattle.folds.proofs.Tests.{all-same, any-same}
 use Rattle.folds.proofs.Numbers.{sum-same}
 use Rattle.reader.specs.Tables.{users, clauses, tableOf, recordCount}
-use Rattle.reader.specs.Fields.{parameter, clausePermission, clauseLength, conditionAttribute, conditionOperator, conditionValue}
+use Rattle.reader.specs.Fields.{parameter, clausePermission, clauseLength}
+use Rattle.reader.specs.Fields.{conditionAttribute, conditionOperator, conditionValue}
 use Rattle.reader.specs.Codes.{heldBy}
 use Rattle.weights.specs.declared.Context.{Context}
 use Rattle.weights.specs.Weights.{weight}
 use Rattle.weights.proofs.Agree.{SameWeighing, same-weight}
 use Rattle.decision.specs.Conditions.{conditionHolds, clauseHolds, clauseOfHolds, permissionHolds}
-use Rattle.decision.specs.Groups.{entryCount, sumOf, someIneligible, someWeightless, groupRefusal}
+use Rattle.decision.specs.Groups.{entryCount, sumOf, someIneligible, someWeightless}
+use Rattle.decision.specs.Groups.{membersRefusal, groupRefusal}
 use Rattle.decision.specs.Decision.{eligible, groupDecision}
 
 -- K records that agree: count, permission, length, and each condition that is used
@@ -24,9 +26,12 @@ pub record SameClauses (k l : List ℕ) : Type 0 where
   pub count : recordCount clauses k ≡ recordCount clauses l
   pub permission : (i : ℕ) → i < recordCount clauses k → clausePermission k i ≡ clausePermission l i
   pub length : (i : ℕ) → i < recordCount clauses k → clauseLength k i ≡ clauseLength l i
-  pub attribute : (i j : ℕ) → i < recordCount clauses k → j < clauseLength k i → conditionAttribute k i j ≡ conditionAttribute l i j
-  pub operator : (i j : ℕ) → i < recordCount clauses k → j < clauseLength k i → conditionOperator k i j ≡ conditionOperator l i j
-  pub value : (i j : ℕ) → i < recordCount clauses k → j < clauseLength k i → conditionValue k i j ≡ conditionValue l i j
+  pub attribute : (i j : ℕ) → i < recordCount clauses k → j < clauseLength k i →
+      conditionAttribute k i j ≡ conditionAttribute l i j
+  pub operator : (i j : ℕ) → i < recordCount clauses k → j < clauseLength k i →
+      conditionOperator k i j ≡ conditionOperator l i j
+  pub value : (i j : ℕ) → i < recordCount clauses k → j < clauseLength k i →
+      conditionValue k i j ≡ conditionValue l i j
 
 -- U records that agree: count and parameters
 pub record SameUsers (us vs : List ℕ) : Type 0 where
@@ -41,10 +46,13 @@ pub record SameDeciding (b d : List ℕ) : Type 0 where
 
 module _ (k l : List ℕ) (e : SameClauses k l) where
   -- a clause holds by both tables or by neither
-  same-clause : (number sum set i : ℕ) → i < recordCount clauses k → clauseHolds k number sum set i ≡ clauseHolds l number sum set i
+  same-clause : (number sum set i : ℕ) → i < recordCount clauses k →
+      clauseHolds k number sum set i ≡ clauseHolds l number sum set i
   unfolding clauseHolds conditionHolds
   same-clause number sum set i m =
-      rw (← e .length i m) (all-same _ _ (clauseLength k i) (λ j n. rw (e .attribute i j m n, e .operator i j m n, e .value i j m n)))
+      rw (← e .length i m)
+      (all-same _ _ (clauseLength k i)
+          (λ j n. rw (e .attribute i j m n, e .operator i j m n, e .value i j m n)))
 
   -- a permission's condition holds by both tables or by neither
   pub same-condition : (p number sum set : ℕ) → permissionHolds k p number sum set ≡ permissionHolds l p number sum set
@@ -83,13 +91,15 @@ module _ (U W R S : ℕ) (may can : ℕ → ℕ → Bool) (weigh other : ℕ →
 
   -- what agrees at each point gives the group the same refusal of 12 to 17, or 0
   pub same-refusal : groupRefusal U R may weigh condition g ≡ groupRefusal W S can other rule g
-  unfolding groupRefusal
+  unfolding groupRefusal membersRefusal
   same-refusal = rw (c, q, same-ineligible, same-weightless, same-sum, h)
 
 -- bases that agree decide alike on every group
-pub same-group-decision : (b d : List ℕ) → SameDeciding b d → (at : Context) (p : ℕ) (g : List ℕ) → groupDecision b at p g ≡ groupDecision d at p g
+pub same-group-decision : (b d : List ℕ) → SameDeciding b d → (at : Context) (p : ℕ) (g : List ℕ) →
+    groupDecision b at p g ≡ groupDecision d at p g
 unfolding groupDecision
 same-group-decision b d e at p g =
-    same-refusal _ _ _ _ (eligible b at p) (eligible d at p) (λ r. weight b at r p) (λ r. weight d at r p) _ _ (e .users .count) (e .weighing .roles)
+    same-refusal _ _ _ _ (eligible b at p) (eligible d at p) (λ r. weight b at r p) (λ r. weight d at r p) _ _
+    (e .users .count) (e .weighing .roles)
     (λ u r. rw (e .weighing .roles) (same-holds _ _ _ (e .users) u r)) (λ r. same-weight b d (e .weighing) at r p)
     (same-condition _ _ (e .clauses) p) g

@@ -21,9 +21,11 @@ use Rattle.weights.specs.declared.Context.{Context}
 use Rattle.weights.specs.Contexts.{outOfRange}
 use Rattle.weights.specs.Weights.{weight}
 use Rattle.weights.specs.Setting.{AreWeights}
-use Rattle.weights.specs.Acting.{mayActBy}
-use Rattle.decision.specs.Groups.{entryCount, entryUser, entryRole, sumOf, actedIn, rolesOf, lengthRefused, unknownAt, someUnknown, standsBefore, someTwice, someIneligible, someWeightless, groupRefusal}
-use Rattle.decision.specs.Decision.{eligible, userCount, groupDecision, decisionOf}
+use Rattle.weights.specs.Acting.{mayAct, mayActBy}
+use Rattle.decision.specs.Groups.{entryCount, entryUser, entryRole, sumOf, actedIn, rolesOf}
+use Rattle.decision.specs.Groups.{lengthRefused, unknownAt, someUnknown, standsBefore, someTwice, someIneligible}
+use Rattle.decision.specs.Groups.{someWeightless, membersRefusal, groupRefusal}
+use Rattle.decision.specs.Decision.{userCount, groupDecision, decisionOf}
 use Rattle.decision.specs.Conditions.{roleNum, permissionHolds}
 use Rattle.decision.specs.Granting.{Granted, GrantedBy}
 
@@ -33,19 +35,23 @@ unfolding lengthRefused
 short-enough g h = ltb-false _ _ (or-right (not (eqb (length g % 2) 0)) _ (or-right (eqb (length g) 0) _ h))
 
 -- the users and roles of a group that 13 doesn't refuse are there
-pub user-known : (U R : ℕ) (g : List ℕ) → someUnknown U R g ≡ false → (i : ℕ) → i < entryCount g → entryUser g i < U
+pub user-known : (U R : ℕ) (g : List ℕ) → someUnknown U R g ≡ false →
+    (i : ℕ) → i < entryCount g → entryUser g i < U
 unfolding someUnknown
 user-known U R g h i l = ltb-true _ _ (not-false _ (or-left _ _ (any-at (unknownAt U R g) _ h i l)))
 
-pub role-known : (U R : ℕ) (g : List ℕ) → someUnknown U R g ≡ false → (i : ℕ) → i < entryCount g → entryRole g i < R
+pub role-known : (U R : ℕ) (g : List ℕ) → someUnknown U R g ≡ false →
+    (i : ℕ) → i < entryCount g → entryRole g i < R
 unfolding someUnknown
 role-known U R g h i l =
     ltb-true _ _ (not-false _ (or-right (not (ltb (entryUser g i) U)) _ (any-at (unknownAt U R g) _ h i l)))
 
-pub role-below : (U R : ℕ) (g : List ℕ) → someUnknown U R g ≡ false → R ≤ 8 → (i : ℕ) → i < entryCount g → entryRole g i < 8
+pub role-below : (U R : ℕ) (g : List ℕ) → someUnknown U R g ≡ false → R ≤ 8 →
+    (i : ℕ) → i < entryCount g → entryRole g i < 8
 role-below U R g h small i l = lt-of-lt-of-le (role-known U R g h i l) small
 
-module _ (b : List ℕ) (at : Context) (p : ℕ) (w g : List ℕ) (are : AreWeights b at p w) (low : (i : ℕ) → i < entryCount g → entryRole g i < 8) where
+module _ (b : List ℕ) (at : Context) (p : ℕ) (w g : List ℕ) (are : AreWeights b at p w)
+    (low : (i : ℕ) → i < entryCount g → entryRole g i < 8) where
   -- what the weights handed on say is what the weights say
   pub weightless-same : someWeightless (λ r. getD w r 0) g ≡ someWeightless (λ r. weight b at r p) g
   unfolding someWeightless
@@ -55,74 +61,128 @@ module _ (b : List ℕ) (at : Context) (p : ℕ) (w g : List ℕ) (are : AreWeig
   unfolding sumOf
   sum-weights = sum-same _ _ (entryCount g) (λ i l. are .role (entryRole g i) (low i l))
 
-module _ (b : List ℕ) (at : Context) (p : ℕ) (g : List ℕ) where
-  -- what the tables and R handed on say is what the base says
-  pub unknown-same : (us : List ℕ) (R : ℕ) → us ≡ tableOf b users → R ≡ roleCount b → someUnknown (length us / 4) R g ≡ someUnknown (userCount b) (roleCount b) g
+-- what the tables and R handed on say is what the base says
+module _ (b : List ℕ) (g : List ℕ) where
+  pub unknown-same : (us : List ℕ) (R : ℕ) → us ≡ tableOf b users → R ≡ roleCount b →
+      someUnknown (length us / 4) R g ≡ someUnknown (userCount b) (roleCount b) g
   unknown-same us R e f = rw (e, f)
 
-  pub ineligible-same : (us : List ℕ) (R : ℕ) → us ≡ tableOf b users → R ≡ roleCount b → someIneligible (mayActBy R us) g ≡ someIneligible (eligible b at p) g
+  pub ineligible-same : (us : List ℕ) (R : ℕ) → us ≡ tableOf b users → R ≡ roleCount b →
+      someIneligible (mayActBy R us) g ≡ someIneligible (mayAct b) g
   ineligible-same us R e f = rw (e, f)
 
-  pub condition-same : (k : List ℕ) (n sum set : ℕ) → k ≡ tableOf b clauses → n ≡ entryCount g → sum ≡ sumOf (λ r. weight b at r p) g → set ≡ rolesOf g →
-      permissionHolds k p n sum set ≡ permissionHolds (tableOf b clauses) p (entryCount g) (sumOf (λ r. weight b at r p) g) (rolesOf g)
+module _ (b : List ℕ) (at : Context) (p : ℕ) (g : List ℕ) where
+  pub condition-same : (k : List ℕ) (n sum set : ℕ) → k ≡ tableOf b clauses → n ≡ entryCount g →
+      sum ≡ sumOf (λ r. weight b at r p) g → set ≡ rolesOf g →
+      permissionHolds k p n sum set ≡
+          permissionHolds (tableOf b clauses) p (entryCount g) (sumOf (λ r. weight b at r p) g) (rolesOf g)
   condition-same k n sum set e f h i = rw (e, f, h, i)
 
--- where the chain 12 to 17 gives 0, no test applies and the condition holds
-none-of : (p q r s t c : Bool) →
-    cond {A = ℕ} p 12 (cond q 13 (cond r 14 (cond s 15 (cond t 16 (cond c 0 17))))) ≡ 0 →
-    (p ≡ false) × (q ≡ false) × (r ≡ false) × (s ≡ false) × (t ≡ false) × (c ≡ true)
-none-of true q r s t c h = absurd (suc-ne-zero 11 h)
-none-of false true r s t c h = absurd (suc-ne-zero 12 h)
-none-of false false true s t c h = absurd (suc-ne-zero 13 h)
-none-of false false false true t c h = absurd (suc-ne-zero 14 h)
-none-of false false false false true c h = absurd (suc-ne-zero 15 h)
-none-of false false false false false false h = absurd (suc-ne-zero 16 h)
-none-of false false false false false true h = (refl, refl, refl, refl, refl, refl)
+-- a group that none of refusals 12 to 15 applies to
+pub record Members (U R : ℕ) (may : ℕ → ℕ → Bool) (g : List ℕ) : Type 0 where
+  pub whole : lengthRefused g ≡ false
+  pub known : someUnknown U R g ≡ false
+  pub once : someTwice g ≡ false
+  pub acting : someIneligible may g ≡ false
+
+-- where the chain 12 to 15 gives 0, no test applies
+none-of : (p q r s : Bool) → cond {A = ℕ} p 12 (cond q 13 (cond r 14 (cond s 15 0))) ≡ 0 →
+    (p ≡ false) × (q ≡ false) × (r ≡ false) × (s ≡ false)
+none-of true q r s h = absurd (suc-ne-zero 11 h)
+none-of false true r s h = absurd (suc-ne-zero 12 h)
+none-of false false true s h = absurd (suc-ne-zero 13 h)
+none-of false false false true h = absurd (suc-ne-zero 14 h)
+none-of false false false false h = (refl, refl, refl, refl)
+
+-- where 12 to 17 give 0, so do 12 to 15, no role is weightless and the condition holds
+none-left : (m : ℕ) (t c : Bool) → cond (not (eqb m 0)) m (cond t 16 (cond c 0 17)) ≡ 0 →
+    (m ≡ 0) × (t ≡ false) × (c ≡ true)
+none-left m t c = by (eqb m 0) refl t c
+  where
+    by : (r : Bool) → eqb m 0 ≡ r → (t c : Bool) → cond (not r) m (cond t 16 (cond c 0 17)) ≡ 0 →
+        (m ≡ 0) × (t ≡ false) × (c ≡ true)
+    by false e t c h = absurd (eqb-false _ _ e h)
+    by true e true c h = absurd (suc-ne-zero 15 h)
+    by true e false false h = absurd (suc-ne-zero 16 h)
+    by true e false true h = (eqb-true _ _ e, refl, refl)
+
+module _ (U R : ℕ) (may : ℕ → ℕ → Bool) (g : List ℕ) where
+  pub members-of : membersRefusal U R may g ≡ 0 → Members U R may g
+  unfolding membersRefusal
+  members-of h =
+      let w = none-of (lengthRefused g) (someUnknown U R g) (someTwice g) (someIneligible may g) h in
+      record { whole = w .0; known = w .1; once = w .2; acting = w .3 }
+
+  pub members-pass : Members U R may g → membersRefusal U R may g ≡ 0
+  unfolding membersRefusal
+  members-pass d = rw (d .whole, d .known, d .once, d .acting)
+
+-- a group of 1 to 6 whole entries is one that 12 doesn't refuse
+whole-length : (g : List ℕ) → length g ≡ 2 * entryCount g → 1 ≤ entryCount g → entryCount g ≤ 6 →
+    lengthRefused g ≡ false
+unfolding lengthRefused
+whole-length g whole some few =
+    rw (
+      ne-eqb (length g) 0 (λ q. omega arith),
+      eq-eqb (length g % 2) 0 (omega arith),
+      le-ltb 12 (length g) (omega arith),
+    )
 
 module _ (U R : ℕ) (may : ℕ → ℕ → Bool) (weigh : ℕ → ℕ) (condition : ℕ → ℕ → ℕ → Bool) (g : List ℕ) where
+  abbrev holds : Bool
+  holds = condition (entryCount g) (sumOf weigh g) (rolesOf g)
+
   granted-of : groupRefusal U R may weigh condition g ≡ 0 → Granted U R may weigh condition g
   unfolding groupRefusal lengthRefused someTwice standsBefore someIneligible someWeightless
   granted-of h =
-      let w = none-of (lengthRefused g) (someUnknown U R g) (someTwice g) (someIneligible may g) (someWeightless weigh g) (condition (entryCount g) (sumOf weigh g) (rolesOf g)) h in
-      let s = short-enough g (w .0) in
-      let n : length g ≡ 0 → ⊥ = eqb-false _ _ (or-left _ _ (w .0)) in
-      let e : length g % 2 ≡ 0 = eqb-true _ _ (not-false _ (or-left _ _ (or-right (eqb (length g) 0) _ (w .0)))) in
+      let left = none-left (membersRefusal U R may g) (someWeightless weigh g) holds h in
+      let w = members-of U R may g (left .0) in
+      let s = short-enough g (w .whole) in
+      let n : length g ≡ 0 → ⊥ = eqb-false _ _ (or-left _ _ (w .whole)) in
+      let e : length g % 2 ≡ 0 =
+          eqb-true _ _ (not-false _ (or-left _ _ (or-right (eqb (length g) 0) _ (w .whole)))) in
       let m = pos-of-ne-zero n in
       record {
         whole = omega arith;
         some = omega arith;
         few = omega arith;
-        user = user-known U R g (w .1);
-        role = role-known U R g (w .1);
-        different = λ i j l k q. eqb-false _ _ (any-at (λ i. eqb (entryUser g i) (entryUser g j)) j (any-at (standsBefore g) _ (w .2) j k) i l) q;
-        acting = λ i l. not-false _ (any-at (λ i. not (may (entryUser g i) (entryRole g i))) _ (w .3) i l);
-        heavy = λ i l. pos-of-ne-zero (eqb-false _ _ (any-at (λ i. eqb (weigh (entryRole g i)) 0) _ (w .4) i l));
-        holds = w .5;
+        user = user-known U R g (w .known);
+        role = role-known U R g (w .known);
+        different = λ i j l k.
+            eqb-false _ _
+            (any-at (λ i. eqb (entryUser g i) (entryUser g j)) j (any-at (standsBefore g) _ (w .once) j k) i l);
+        acting = λ i l. not-false _ (any-at (λ i. not (may (entryUser g i) (entryRole g i))) _ (w .acting) i l);
+        heavy = λ i l. pos-of-ne-zero (eqb-false _ _ (any-at (λ i. eqb (weigh (entryRole g i)) 0) _ (left .1) i l));
+        holds = left .2;
       }
 
+  granted-members : Granted U R may weigh condition g → Members U R may g
+  unfolding someUnknown someTwice standsBefore someIneligible
+  granted-members d = record {
+    whole = whole-length g (d .whole) (d .some) (d .few);
+    known = any-each (unknownAt U R g) (entryCount g) (λ i l. rw (lt-ltb _ _ (d .user i l), lt-ltb _ _ (d .role i l)));
+    once = any-each (standsBefore g) (entryCount g) (λ j k.
+        any-each (λ i. eqb (entryUser g i) (entryUser g j)) j (λ i l. ne-eqb _ _ (d .different i j l k)));
+    acting = any-each (λ i. not (may (entryUser g i) (entryRole g i))) (entryCount g) (λ i l. rw (d .acting i l));
+  }
+
+  none-weightless : ((i : ℕ) → i < entryCount g → 0 < weigh (entryRole g i)) → someWeightless weigh g ≡ false
+  unfolding someWeightless
+  none-weightless heavy =
+      any-each (λ i. eqb (weigh (entryRole g i)) 0) (entryCount g)
+      (λ i l. ne-eqb (weigh (entryRole g i)) 0 (λ q. let h = heavy i l in omega arith))
+
   refused-not : Granted U R may weigh condition g → groupRefusal U R may weigh condition g ≡ 0
-  unfolding groupRefusal lengthRefused someUnknown someTwice standsBefore someIneligible someWeightless
-  refused-not d =
-      let a = d .whole in
-      let n = d .some in
-      let m = d .few in
-      rw (
-        ne-eqb (length g) 0 (λ q. omega arith),
-        eq-eqb (length g % 2) 0 (omega arith),
-        le-ltb 12 (length g) (omega arith),
-        any-each (unknownAt U R g) (entryCount g) (λ i l. rw (lt-ltb _ _ (d .user i l), lt-ltb _ _ (d .role i l))),
-        any-each (standsBefore g) (entryCount g) (λ j k. any-each (λ i. eqb (entryUser g i) (entryUser g j)) j (λ i l. ne-eqb _ _ (d .different i j l k))),
-        any-each (λ i. not (may (entryUser g i) (entryRole g i))) (entryCount g) (λ i l. rw (d .acting i l)),
-        any-each (λ i. eqb (weigh (entryRole g i)) 0) (entryCount g) (λ i l. ne-eqb (weigh (entryRole g i)) 0 (λ q. let h = d .heavy i l in omega arith)),
-        d .holds,
-      )
+  unfolding groupRefusal
+  refused-not d = rw (members-pass U R may g (granted-members d), none-weightless (d .heavy), d .holds)
 
   -- the law of granting, for whatever the chain is handed
   pub granting : (groupRefusal U R may weigh condition g ≡ 0) ↔ Granted U R may weigh condition g
   granting = (granted-of, refused-not)
 
 -- the law of granting: with an accepted base, a permission that is there and a context in range, for every list
-pub decision-granting : (b : List ℕ) (at : Context) (p : ℕ) (g : List ℕ) → refusalOf b ≡ 0 → p < permissionCount b → outOfRange at ≡ false →
+pub decision-granting : (b : List ℕ) (at : Context) (p : ℕ) (g : List ℕ) →
+    refusalOf b ≡ 0 → p < permissionCount b → outOfRange at ≡ false →
     (decisionOf b at p g ≡ 0) ↔ GrantedBy b at p g
 unfolding decisionOf groupDecision
 decision-granting b at p g ok there fit = rw (ok, lt-ltb _ _ there, fit) (granting _ _ _ _ _ g)
@@ -134,7 +194,8 @@ unfolding decisionOf
 decision-head b at p g = by (eqb (refusalOf b) 0) (ltb p (permissionCount b)) (outOfRange at) refl refl refl
   where
     by : (r s t : Bool) → eqb (refusalOf b) 0 ≡ r → ltb p (permissionCount b) ≡ s → outOfRange at ≡ t →
-        cond (not r) (refusalOf b) (cond (not s) 10 (cond t 11 (groupDecision b at p g))) ≡ 0 → (refusalOf b ≡ 0) × (p < permissionCount b) × (outOfRange at ≡ false)
+        cond (not r) (refusalOf b) (cond (not s) 10 (cond t 11 (groupDecision b at p g))) ≡ 0 →
+        (refusalOf b ≡ 0) × (p < permissionCount b) × (outOfRange at ≡ false)
     by true true false er es et h = (eqb-true _ _ er, ltb-true _ _ es, et)
     by true true true er es et h = absurd (suc-ne-zero 10 h)
     by true false t er es et h = absurd (suc-ne-zero 9 h)
@@ -146,7 +207,8 @@ unfolding roleNum rolesOf
 role-num g = count-same (inSet (rolesOf g)) (actedIn g) 8 (λ r l. in-set (actedIn g) 8 r l)
 
 -- the sum of a group that 12 doesn't refuse is at most 240
-pub sum-at-most : (weigh : ℕ → ℕ) (g : List ℕ) → ((i : ℕ) → i < entryCount g → weigh (entryRole g i) ≤ 40) → lengthRefused g ≡ false → sumOf weigh g ≤ 240
+pub sum-at-most : (weigh : ℕ → ℕ) (g : List ℕ) → ((i : ℕ) → i < entryCount g → weigh (entryRole g i) ≤ 40) →
+    lengthRefused g ≡ false → sumOf weigh g ≤ 240
 unfolding sumOf
 sum-at-most weigh g h e =
     let s = short-enough g e in
@@ -155,7 +217,8 @@ sum-at-most weigh g h e =
 
 -- the law of granting whole: the decider grants exactly these groups, of every list of numbers
 pub granted-by : (b : List ℕ) (at : Context) (p : ℕ) (g : List ℕ) →
-    (decisionOf b at p g ≡ 0) ↔ ((refusalOf b ≡ 0) × (p < permissionCount b) × (outOfRange at ≡ false) × GrantedBy b at p g)
+    (decisionOf b at p g ≡ 0) ↔
+        ((refusalOf b ≡ 0) × (p < permissionCount b) × (outOfRange at ≡ false) × GrantedBy b at p g)
 granted-by b at p g = (
   λ h. let k = decision-head b at p g h in (k .0, k .1, k .2, decision-granting b at p g (k .0) (k .1) (k .2) .0 h),
   λ w. decision-granting b at p g (w .0) (w .1) (w .2) .1 (w .3),

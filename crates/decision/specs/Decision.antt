@@ -10,7 +10,7 @@ use Rattle.weights.specs.Contexts.{outOfRange}
 use Rattle.weights.specs.Weights.{weight}
 use Rattle.weights.specs.Acting.{mayAct}
 use Rattle.decision.specs.Conditions.{permissionHolds}
-use Rattle.decision.specs.Groups.{groupRefusal}
+use Rattle.decision.specs.Groups.{membersRefusal, groupRefusal}
 
 -- user u may stand in a group for permission p in role r, in this context: u may act in r
 abbrev pub eligible : List ℕ → Context → ℕ → ℕ → ℕ → Bool
@@ -20,11 +20,16 @@ eligible b at p u r = mayAct b u r
 abbrev pub userCount : List ℕ → ℕ
 userCount b = recordCount users (tableOf b users)
 
+-- refusals 12 to 15 by the base's users and roles and by who may act
+abbrev pub membersOf : List ℕ → List ℕ → ℕ
+membersOf b g = membersRefusal (userCount b) (roleCount b) (mayAct b) g
+
 -- refusals 12 to 17, with what the base, the context and the permission hand to the group
 unfoldable pub groupDecision : List ℕ → Context → ℕ → List ℕ → ℕ
 unfolding groupRefusal
 groupDecision b at p g =
-    groupRefusal (userCount b) (roleCount b) (eligible b at p) (λ r. weight b at r p) (permissionHolds (tableOf b clauses) p) g
+    groupRefusal (userCount b) (roleCount b) (eligible b at p) (λ r. weight b at r p)
+    (permissionHolds (tableOf b clauses) p) g
 
 -- the head: 1 to 9 of the base, 10 of the permission, 11 of the context
 unfoldable pub decisionOf : List ℕ → Context → ℕ → List ℕ → ℕ

@@ -11,9 +11,10 @@ use Rattle.decision.specs.Conditions.{permissionHolds}
 use Rattle.decision.specs.Groups.{entryCount, entryUser, entryRole, sumOf, rolesOf}
 use Rattle.decision.specs.Decision.{eligible, userCount}
 
--- 1 to 6 whole entries of different users, users and roles that are there, each user eligible in the role, each role's weight above 0, and
--- the condition holds of number, sum and set
-pub record Granted (U R : ℕ) (may : ℕ → ℕ → Bool) (weigh : ℕ → ℕ) (condition : ℕ → ℕ → ℕ → Bool) (g : List ℕ) : Type 0 where
+-- 1 to 6 whole entries of different users, users and roles that are there, each user eligible in the role, each role's
+-- weight above 0, and the condition holds of number, sum and set
+pub record Granted (U R : ℕ) (may : ℕ → ℕ → Bool) (weigh : ℕ → ℕ) (condition : ℕ → ℕ → ℕ → Bool) (g : List ℕ)
+    : Type 0 where
   pub whole : length g ≡ 2 * entryCount g
   pub some : 1 ≤ entryCount g
   pub few : entryCount g ≤ 6
@@ -26,4 +27,6 @@ pub record Granted (U R : ℕ) (may : ℕ → ℕ → Bool) (weigh : ℕ → ℕ
 
 -- the base grants the group the permission in the context
 abbrev pub GrantedBy : List ℕ → Context → ℕ → List ℕ → Type 0
-GrantedBy b at p g = Granted (userCount b) (roleCount b) (eligible b at p) (λ r. weight b at r p) (permissionHolds (tableOf b clauses) p) g
+GrantedBy b at p g =
+    Granted (userCount b) (roleCount b) (eligible b at p) (λ r. weight b at r p)
+    (permissionHolds (tableOf b clauses) p) g

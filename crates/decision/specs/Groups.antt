@@ -64,13 +64,19 @@ unfoldable pub someWeightless : (ℕ → ℕ) → List ℕ → Bool
 unfolding anyBelow
 someWeightless weight g = anyBelow (entryCount g) (λ i. eqb (weight (entryRole g i)) 0)
 
--- the first of refusals 12 to 17 that applies, or 0: with U users and R roles, who is eligible in which role, the
--- roles' weights, and the condition on number, sum and set
-unfoldable pub groupRefusal : ℕ → ℕ → (ℕ → ℕ → Bool) → (ℕ → ℕ) → (ℕ → ℕ → ℕ → Bool) → List ℕ → ℕ
-groupRefusal U R eligible weight condition g =
+-- the first of refusals 12 to 15 that applies, or 0: who stands in the group, with U users and R roles and who is
+-- eligible in which role
+unfoldable pub membersRefusal : ℕ → ℕ → (ℕ → ℕ → Bool) → List ℕ → ℕ
+membersRefusal U R eligible g =
     cond (lengthRefused g) 12
     (cond (someUnknown U R g) 13
     (cond (someTwice g) 14
-    (cond (someIneligible eligible g) 15
+    (cond (someIneligible eligible g) 15 0)))
+
+-- the first of refusals 12 to 17 that applies, or 0: 12 to 15 as above, then 16 by the roles' weights and 17 by the
+-- condition on number, sum and set
+unfoldable pub groupRefusal : ℕ → ℕ → (ℕ → ℕ → Bool) → (ℕ → ℕ) → (ℕ → ℕ → ℕ → Bool) → List ℕ → ℕ
+groupRefusal U R eligible weight condition g =
+    cond (not (eqb (membersRefusal U R eligible g) 0)) (membersRefusal U R eligible g)
     (cond (someWeightless weight g) 16
-    (cond (condition (entryCount g) (sumOf weight g) (rolesOf g)) 0 17)))))
+    (cond (condition (entryCount g) (sumOf weight g) (rolesOf g)) 0 17))

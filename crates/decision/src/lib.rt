@@ -6,7 +6,7 @@ ghost use Prim.Native.Nat.{_<_};
 ghost use Rattle.reader.specs.Tables.{permissionCount};
 ghost use Rattle.reader.specs.Rules.{refusalOf};
 ghost use Rattle.weights.specs.Setting.{FixedBy};
-ghost use Rattle.decision.specs.Decision.{groupDecision, decisionOf};
+ghost use Rattle.decision.specs.Decision.{membersOf, groupDecision, decisionOf};
 
 pub mod conditions;
 pub mod groups;
@@ -29,10 +29,10 @@ pub fn decide(base: &[u8], permission: u32, at: Context, group: &[u8]) -> u8
     decide_checked(base, permission as u8, s, group)
 }
 
-// Inner: refusals 12 to 17 for an accepted base, a permission that is there and a setting of that base.
-pub fn decide_checked(base: &[u8], permission: u8, s: Fixed, group: &[u8]) -> u8
-    requires { ⌜ (refusalOf (now base) ≡ 0) × (permission < permissionCount (now base)) × FixedBy (now base) s ⌝ }
-    ensures { λ r. ⌜ r ≡ groupDecision (now (base .entry)) (s .at) permission (now (group .entry)) ⌝ }
+// Inner: refusals 12 to 15 for an accepted base, or 0.
+pub fn members_refusal(base: &[u8], group: &[u8]) -> u8
+    requires { ⌜ refusalOf (now base) ≡ 0 ⌝ }
+    ensures { λ r. ⌜ r ≡ membersOf (now (base .entry)) (now (group .entry)) ⌝ }
 {
     if groups::length_refused(group) {
         return 12;
@@ -47,6 +47,18 @@ pub fn decide_checked(base: &[u8], permission: u8, s: Fixed, group: &[u8]) -> u8
     }
     if groups::some_ineligible(group, users, roles) {
         return 15;
+    }
+    0
+}
+
+// Inner: refusals 12 to 17 for an accepted base, a permission that is there and a setting of that base.
+pub fn decide_checked(base: &[u8], permission: u8, s: Fixed, group: &[u8]) -> u8
+    requires { ⌜ (refusalOf (now base) ≡ 0) × (permission < permissionCount (now base)) × FixedBy (now base) s ⌝ }
+    ensures { λ r. ⌜ r ≡ groupDecision (now (base .entry)) (s .at) permission (now (group .entry)) ⌝ }
+{
+    let members = members_refusal(base, group);
+    if members != 0 {
+        return members;
     }
     let chosen = weights::chosen(base, s);
     let juniors = s.juniors;

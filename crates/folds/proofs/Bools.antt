@@ -3,7 +3,7 @@ use mathlib.Core.Bool.{Bool, true, false, _&&_, _||_, not, cond, false≢true}
 use mathlib.Core.Path.{_≡_, refl, sym}
 use mathlib.Core.Logic.{_⊎_, inl, inr, ⊎-elim}
 use Prim.Native.Nat.{ℕ}
-use borrow.Author.Tests.{lt-ltb, le-ltb, leb-true, leb-false, eqb-true, eq-eqb}
+use borrow.Author.Tests.{lt-ltb, le-ltb, leb-true, leb-false, eqb-true, eq-eqb, ne-eqb}
 use lib.Dec.{ltb, leb, eqb}
 
 pub and-left : (a b : Bool) → (a && b) ≡ true → a ≡ true
@@ -48,6 +48,13 @@ met y h = rw h
 
 pub passed : {t : Bool} (x : ℕ) {y : ℕ} → t ≡ false → cond t x y ≡ y
 passed x h = rw h
+
+-- a refusal r goes before what follows where there is one, and what follows is left where there is none
+pub refused : {r : ℕ} (y : ℕ) → (r ≡ 0 → ⊥) → r ≡ cond (not (eqb r 0)) r y
+refused y h = rw (ne-eqb _ _ h)
+
+pub unrefused : {r y : ℕ} → r ≡ 0 → cond (not (eqb r 0)) r y ≡ y
+unrefused h = rw h
 
 -- two tests that are met together are one
 pub same-test : (a b : Bool) → (a ≡ true → b ≡ true) → (b ≡ true → a ≡ true) → a ≡ b

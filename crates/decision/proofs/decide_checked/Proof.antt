@@ -6,22 +6,22 @@ use mathlib.Core.List.{List}
 use mathlib.Core.Path.{_≡_, sym, _∙_}
 use native.Mathlib.Nat.{lt-of-lt-of-le}
 use lib.ListN.{length}
-use Rattle.folds.proofs.Bools.{met, passed}
-use Rattle.reader.specs.Tables.{users, clauses, roleCount, tableOf, frameRefusal}
+use Rattle.folds.proofs.Bools.{met, passed, refused, unrefused}
+use Rattle.reader.specs.Tables.{clauses, roleCount, tableOf, frameRefusal}
 use Rattle.reader.specs.Rules.{refusalOf}
-use Rattle.reader.proofs.Frame.{framed, roles-range, permissions-le}
+use Rattle.reader.proofs.Frame.{roles-range, permissions-le}
 use Rattle.reader.proofs.Accepted.{accepted, clause-fine}
 use Rattle.weights.specs.declared.Context.{Context}
 use Rattle.weights.specs.declared.ChosenWeights.{ChosenWeights}
 use Rattle.weights.specs.Weights.{weight}
 use Rattle.weights.specs.Setting.{FixedBy, ChosenBy, AreWeights}
+use Rattle.weights.specs.Acting.{mayAct}
 use Rattle.weights.proofs.Weigh.{weights-le}
 use Rattle.decision.specs.Conditions.{permissionHolds}
-use Rattle.decision.specs.Groups.{entryCount, entryRole, sumOf, rolesOf, lengthRefused, someUnknown}
-use Rattle.decision.specs.Groups.{someTwice, someIneligible, someWeightless, groupRefusal}
-use Rattle.decision.specs.Decision.{eligible, userCount, groupDecision}
-use Rattle.decision.proofs.Granting.{role-below, short-enough, weightless-same, sum-weights, unknown-same}
-use Rattle.decision.proofs.Granting.{ineligible-same, condition-same}
+use Rattle.decision.specs.Groups.{entryCount, entryRole, sumOf, rolesOf, someWeightless, groupRefusal}
+use Rattle.decision.specs.Decision.{userCount, membersOf, groupDecision}
+use Rattle.decision.proofs.Granting.{Members, members-of, role-below, short-enough}
+use Rattle.decision.proofs.Granting.{weightless-same, sum-weights, condition-same}
 use borrow.Author.Needs.{needs}
 use Rattle.decision.proofs.decide_checked.Statement.{statement}
 use Rattle.decision.proofs.decide_checked.Tie as tie
@@ -55,14 +55,11 @@ module _ (s : tie.Start) where
   fixed : FixedBy base (s .args .s)
   fixed = s .pre .2
 
+  abbrev members : ℕ
+  members = membersOf base group
+
   abbrev decided : ℕ
   decided = groupDecision base context permission group
-
-  abbrev unknown : Bool
-  unknown = someUnknown (userCount base) (roleCount base) group
-
-  abbrev ineligible : Bool
-  ineligible = someIneligible (eligible base context permission) group
 
   abbrev weightless : Bool
   weightless = someWeightless weigh group
@@ -76,29 +73,22 @@ module _ (s : tie.Start) where
   abbrev left15 : ℕ
   left15 = cond weightless 16 left16
 
-  abbrev left14 : ℕ
-  left14 = cond ineligible 15 left15
+  rest15 : members ≡ 0 → decided ≡ left15
+  unfolding groupDecision groupRefusal
+  rest15 h = unrefused h
 
-  abbrev left13 : ℕ
-  left13 = cond (someTwice group) 14 left14
-
-  abbrev left12 : ℕ
-  left12 = cond unknown 13 left13
-
-  -- what is learnt on the way: of the group's length, of the tables read, of its roles, of the weights
-  record Short : Type 0 where
-    few : length group ≤ 12
-
-  record Read : Type 0 where
-    few : length group ≤ 12
-    user-table : List ℕ
-    roles : ℕ
-    users-are : user-table ≡ tableOf base users
-    roles-are : roles ≡ roleCount base
-
+  -- what is learnt on the way: of the group's length and roles, of the choice of policies, of the weights, of the table
   record Known : Type 0 where
-    read : Read
+    few : length group ≤ 12
     low : (i : ℕ) → i < entryCount group → entryRole group i < 8
+
+  known : members ≡ 0 → Known
+  known h =
+      let m : Members (userCount base) (roleCount base) (mayAct base) group = members-of _ _ _ group h in
+      record {
+        few = short-enough group (m .whole);
+        low = role-below _ _ group (m .known) (roles-range _ frame .1);
+      }
 
   record Chosen : Type 0 where
     known : Known
@@ -106,8 +96,7 @@ module _ (s : tie.Start) where
     by : ChosenBy base context (f .own) (f .inh)
 
   record Weighed : Type 0 where
-    few : length group ≤ 12
-    low : (i : ℕ) → i < entryCount group → entryRole group i < 8
+    known : Known
     w : List ℕ
     are : AreWeights base context permission w
 
@@ -130,81 +119,18 @@ learn r g = record { start = r .start; facts = g; rest = r .rest }
 abbrev pass : {F : tie.Start → Type 0} {l k : tie.Start → ℕ} (r : Run F l) → l (r .start) ≡ k (r .start) → Run F k
 pass r e = record { start = r .start; facts = r .facts; rest = r .rest ∙ e }
 
--- 12
-abbrev start12 : tie.After-length-refused → tie.Start
-start12 c = c .before .before .before
+-- 12 to 15
+abbrev start15 : tie.After-members-refusal → tie.Start
+start15 c = c .before .before .before
 
-test12 : (c : tie.After-length-refused) → lengthRefused (group (start12 c)) ≡ c .length-refused .result
-test12 c = sym (c .length-refused .ensures)
+test15 : (c : tie.After-members-refusal) → c .members-refusal .result ≡ members (start15 c)
+test15 c = c .members-refusal .ensures
 
-rest12 : (s : tie.Start) → lengthRefused (group s) ≡ false → decided s ≡ left12 s
-unfolding groupDecision groupRefusal
-rest12 s h = passed 12 h
-
-abbrev past12 : tie.Else1 → Run Short left12
-past12 c =
-    let s = start12 (c .before) in
-    let h = test12 (c .before) ∙ c .if1 .left in
-    record { start = s; facts = record { few = short-enough _ h }; rest = rest12 s h }
-
--- 13
-abbrev at-roles : tie.After-part → Run Short left12
-at-roles c = past12 (c .before)
-
-abbrev at-read : tie.After-role-count → Run Read left12
-at-read c =
-    let r = at-roles (c .before) in
-    learn r (record {
-      few = r .facts .few;
-      user-table = c .before .part .result .now;
-      roles = c .role-count .result;
-      users-are = c .before .part .ensures;
-      roles-are = c .role-count .ensures;
-    })
-
-roles-few : (s : tie.Start) (k : Read s) → k .roles ≤ 8
-roles-few s k = rw (k .roles-are) (roles-range _ (frame s) .1)
-
-abbrev at13 : tie.After-some-unknown → Run Read left12
-at13 c = at-read (c .before)
-
-test13 : (c : tie.After-some-unknown) → unknown (at13 c .start) ≡ c .some-unknown .result
-test13 c =
-    let s = at13 c .start in
-    let k = at13 c .facts in
-    let same = unknown-same (base s) (context s) (permission s) (group s) _ _ (k .users-are) (k .roles-are) in
-    sym (c .some-unknown .ensures ∙ same)
-
-abbrev past13 : tie.Else2 → Run Known left13
-past13 c =
-    let r = at13 (c .before) in
-    let none = sym (c .before .some-unknown .ensures) ∙ c .if2 .left in
-    let low = role-below _ _ (group (r .start)) none (roles-few (r .start) (r .facts)) in
-    learn (pass r (passed 13 (test13 (c .before) ∙ c .if2 .left))) (record { read = r .facts; low = low })
-
--- 14
-abbrev at14 : tie.After-some-twice → Run Known left13
-at14 c = past13 (c .before)
-
-test14 : (c : tie.After-some-twice) → someTwice (group (at14 c .start)) ≡ c .some-twice .result
-test14 c = sym (c .some-twice .ensures)
-
-abbrev past14 : tie.Else3 → Run Known left14
-past14 c = pass (at14 (c .before)) (passed 14 (test14 (c .before) ∙ c .if3 .left))
-
--- 15
-abbrev at15 : tie.After-some-ineligible → Run Known left14
-at15 c = past14 (c .before)
-
-test15 : (c : tie.After-some-ineligible) → ineligible (at15 c .start) ≡ c .some-ineligible .result
-test15 c =
-    let s = at15 c .start in
-    let k = at15 c .facts .read in
-    let same = ineligible-same (base s) (context s) (permission s) (group s) _ _ (k .users-are) (k .roles-are) in
-    sym (c .some-ineligible .ensures ∙ same)
-
-abbrev past15 : tie.Else4 → Run Known left15
-past15 c = pass (at15 (c .before)) (passed 15 (test15 (c .before) ∙ c .if4 .left))
+abbrev past15 : tie.Else1 → Run Known left15
+past15 c =
+    let s = start15 (c .before) in
+    let h = sym (test15 (c .before)) ∙ c .if1 .left in
+    record { start = s; facts = known s h; rest = rest15 s h }
 
 -- 16
 abbrev at-chosen : tie.After-chosen → Run Chosen left15
@@ -222,8 +148,7 @@ at-weighed c =
     let r = at-lent (c .before) in
     let s = r .start in
     learn r (record {
-      few = r .facts .known .read .few;
-      low = r .facts .known .low;
+      known = r .facts .known;
       w = c .role-weights .result;
       are = c .role-weights .ensures (base s) (context s) (ok s) (r .facts .by) (fixed s .juniors);
     })
@@ -234,13 +159,13 @@ at16 c = at-weighed (c .before)
 test16 : (c : tie.After-some-weightless) → weightless (at16 c .start) ≡ c .some-weightless .result
 test16 c =
     let r = at16 c in
-    sym (c .some-weightless .ensures ∙ weightless-same _ _ _ _ (group (r .start)) (r .facts .are) (r .facts .low))
+    sym (c .some-weightless .ensures ∙ weightless-same _ _ _ _ (group (r .start)) (r .facts .are) (r .facts .known .low))
 
-abbrev past16 : tie.Else5 → Run Weighed left16
-past16 c = pass (at16 (c .before)) (passed 16 (test16 (c .before) ∙ c .if5 .left))
+abbrev past16 : tie.Else2 → Run Weighed left16
+past16 c = pass (at16 (c .before)) (passed 16 (test16 (c .before) ∙ c .if2 .left))
 
 -- 17
-abbrev at-clauses : tie.After-part2 → Run Weighed left16
+abbrev at-clauses : tie.After-part → Run Weighed left16
 at-clauses c = past16 (c .before)
 
 abbrev at-count : tie.After-entry-count → Run Counted left16
@@ -248,9 +173,9 @@ at-count c =
     let r = at-clauses (c .before) in
     learn r (record {
       weighed = r .facts;
-      table = c .before .part2 .result .now;
+      table = c .before .part .result .now;
       n = c .entry-count .result;
-      table-is = c .before .part2 .ensures;
+      table-is = c .before .part .ensures;
       n-is = c .entry-count .ensures;
     })
 
@@ -267,41 +192,19 @@ test17 : (c : tie.After-permission-holds) → holds (at17 c .start) ≡ c .permi
 test17 c =
     let s = at17 c .start in
     let k = at17 c .facts in
-    let weighed = sum-weights _ _ _ _ (group s) (k .weighed .are) (k .weighed .low) in
+    let weighed = sum-weights _ _ _ _ (group s) (k .weighed .are) (k .weighed .known .low) in
     let sum = c .before .before .sum-of .ensures .0 ∙ weighed in
     let same = condition-same (base s) (context s) (permission s) (group s) _ _ _ _ (k .table-is) (k .n-is) sum in
     sym (c .permission-holds .ensures ∙ same (c .before .roles-of .ensures))
 
-length-refused-requires : tie.Need-length-refused-requires
-length-refused-requires c κs = search needs
+members-refusal-requires : tie.Need-members-refusal-requires
+members-refusal-requires c κs = ok (c .before .before)
 
 returns : tie.Need-returns
 unfolding groupDecision groupRefusal
-returns c = met _ (test12 (c .before) ∙ c .if1 .taken)
-
-part-requires : tie.Need-part-requires
-part-requires c κs = (frame (past12 c .start), search needs)
-
-role-count-requires : tie.Need-role-count-requires
-role-count-requires c κs = framed _ (frame (at-roles c .start)) .long
-
-some-unknown-requires : tie.Need-some-unknown-requires
-some-unknown-requires c κs = search needs
-
-returns-2 : tie.Need-returns-2
-returns-2 c = met _ (test13 (c .before) ∙ c .if2 .taken) ∙ sym (at13 (c .before) .rest)
-
-some-twice-requires : tie.Need-some-twice-requires
-some-twice-requires c κs = search needs
-
-returns-3 : tie.Need-returns-3
-returns-3 c = met _ (test14 (c .before) ∙ c .if3 .taken) ∙ sym (at14 (c .before) .rest)
-
-some-ineligible-requires : tie.Need-some-ineligible-requires
-some-ineligible-requires c κs = roles-few (past14 c .start) (past14 c .facts .read)
-
-returns-4 : tie.Need-returns-4
-returns-4 c = met _ (test15 (c .before) ∙ c .if4 .taken) ∙ sym (at15 (c .before) .rest)
+returns c =
+    let e = test15 (c .before) in
+    e ∙ refused _ (λ h. c .if1 .taken (e ∙ h))
 
 chosen-requires : tie.Need-chosen-requires
 chosen-requires c κs = (ok (past15 c .start), fixed (past15 c .start))
@@ -312,58 +215,50 @@ role-weights-requires c κs =
     (r .facts .by .own-light, r .facts .by .inh-light, few-permissions (r .start))
 
 some-weightless-requires : tie.Need-some-weightless-requires
-some-weightless-requires c κs = at-weighed c .facts .low
+some-weightless-requires c κs = at-weighed c .facts .known .low
 
-returns-5 : tie.Need-returns-5
-returns-5 c = met _ (test16 (c .before) ∙ c .if5 .taken) ∙ sym (at16 (c .before) .rest)
+returns-2 : tie.Need-returns-2
+returns-2 c = met _ (test16 (c .before) ∙ c .if2 .taken) ∙ sym (at16 (c .before) .rest)
 
-part-requires-2 : tie.Need-part-requires-2
-part-requires-2 c κs = (frame (past16 c .start), search needs)
+part-requires : tie.Need-part-requires
+part-requires c κs = (frame (past16 c .start), search needs)
 
 entry-count-requires : tie.Need-entry-count-requires
-entry-count-requires c κs = at-clauses c .facts .few
+entry-count-requires c κs = at-clauses c .facts .known .few
 
 sum-of-requires : tie.Need-sum-of-requires
 sum-of-requires c κs =
     let k = at-count c .facts .weighed in
-    (k .few, k .low, weights-le _ (ok (at-count c .start)) _ _ _ (k .are))
+    (k .known .few, k .known .low, weights-le _ (ok (at-count c .start)) _ _ _ (k .are))
 
 roles-of-requires : tie.Need-roles-of-requires
-roles-of-requires c κs = at-sum c .facts .weighed .low
+roles-of-requires c κs = at-sum c .facts .weighed .known .low
 
 permission-holds-requires : tie.Need-permission-holds-requires
 permission-holds-requires c κs =
     let r = at-roles-of c in
     rw (r .facts .table-is) (λ i l. clause-fine _ _ _ i (accepted _ (ok (r .start)) .clauses) l .at-most)
 
-returns-6 : tie.Need-returns-6
-returns-6 c = met _ (test17 (c .before) ∙ c .if6 .taken) ∙ sym (at17 (c .before) .rest)
+returns-3 : tie.Need-returns-3
+returns-3 c = met _ (test17 (c .before) ∙ c .if3 .taken) ∙ sym (at17 (c .before) .rest)
 
-returns-7 : tie.Need-returns-7
-returns-7 c = sym (at17 (c .before) .rest ∙ passed 0 (test17 (c .before) ∙ c .if6 .left))
+returns-4 : tie.Need-returns-4
+returns-4 c = sym (at17 (c .before) .rest ∙ passed 0 (test17 (c .before) ∙ c .if3 .left))
 
 pub decide-checked-spec : {M : Type 1} → statement M
 decide-checked-spec =
     tie.close
     (tie.spec
-    length-refused-requires
+    members-refusal-requires
     returns
-    part-requires
-    role-count-requires
-    some-unknown-requires
-    returns-2
-    some-twice-requires
-    returns-3
-    some-ineligible-requires
-    returns-4
     chosen-requires
     role-weights-requires
     some-weightless-requires
-    returns-5
-    part-requires-2
+    returns-2
+    part-requires
     entry-count-requires
     sum-of-requires
     roles-of-requires
     permission-holds-requires
-    returns-6
-    returns-7)
+    returns-3
+    returns-4)
