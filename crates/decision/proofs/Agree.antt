@@ -52,7 +52,7 @@ module _ (k l : List ℕ) (e : SameClauses k l) where
   same-clause number sum set i m =
       rw (← e .length i m)
       (all-same _ _ (clauseLength k i)
-          (λ j n. rw (e .attribute i j m n, e .operator i j m n, e .value i j m n)))
+      (λ j n. rw (e .attribute i j m n, e .operator i j m n, e .value i j m n)))
 
   -- a permission's condition holds by both tables or by neither
   pub same-condition : (p number sum set : ℕ) → permissionHolds k p number sum set ≡ permissionHolds l p number sum set

@@ -75,7 +75,7 @@ module _ (b : List ℕ) (at : Context) (p : ℕ) (g : List ℕ) where
   pub condition-same : (k : List ℕ) (n sum set : ℕ) → k ≡ tableOf b clauses → n ≡ entryCount g →
       sum ≡ sumOf (λ r. weight b at r p) g → set ≡ rolesOf g →
       permissionHolds k p n sum set ≡
-          permissionHolds (tableOf b clauses) p (entryCount g) (sumOf (λ r. weight b at r p) g) (rolesOf g)
+      permissionHolds (tableOf b clauses) p (entryCount g) (sumOf (λ r. weight b at r p) g) (rolesOf g)
   condition-same k n sum set e f h i = rw (e, f, h, i)
 
 -- a group that none of refusals 12 to 15 applies to
@@ -140,7 +140,7 @@ module _ (U R : ℕ) (may : ℕ → ℕ → Bool) (weigh : ℕ → ℕ) (conditi
       let s = short-enough g (w .whole) in
       let n : length g ≡ 0 → ⊥ = eqb-false _ _ (or-left _ _ (w .whole)) in
       let e : length g % 2 ≡ 0 =
-          eqb-true _ _ (not-false _ (or-left _ _ (or-right (eqb (length g) 0) _ (w .whole)))) in
+      eqb-true _ _ (not-false _ (or-left _ _ (or-right (eqb (length g) 0) _ (w .whole)))) in
       let m = pos-of-ne-zero n in
       record {
         whole = omega arith;
@@ -218,7 +218,7 @@ sum-at-most weigh g h e =
 -- the law of granting whole: the decider grants exactly these groups, of every list of numbers
 pub granted-by : (b : List ℕ) (at : Context) (p : ℕ) (g : List ℕ) →
     (decisionOf b at p g ≡ 0) ↔
-        ((refusalOf b ≡ 0) × (p < permissionCount b) × (outOfRange at ≡ false) × GrantedBy b at p g)
+    ((refusalOf b ≡ 0) × (p < permissionCount b) × (outOfRange at ≡ false) × GrantedBy b at p g)
 granted-by b at p g = (
   λ h. let k = decision-head b at p g h in (k .0, k .1, k .2, decision-granting b at p g (k .0) (k .1) (k .2) .0 h),
   λ w. decision-granting b at p g (w .0) (w .1) (w .2) .1 (w .3),

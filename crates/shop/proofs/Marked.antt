@@ -13,7 +13,7 @@ use Rattle.reader.proofs.Accepted.{accepted}
 use Rattle.weights.specs.Contexts.{outOfRange, contextHolds}
 use Rattle.weights.specs.Weights.{weight}
 use Rattle.decision.specs.Conditions.{permissionHolds}
-use Rattle.decision.specs.Groups.{sumOf, lengthRefused, someUnknown, standsBefore, someTwice, someIneligible, someWeightless}
+use Rattle.decision.specs.Groups.{sumOf, lengthRefused, someUnknown, standsBefore, someTwice, someIneligible, someWeightless, membersRefusal}
 use Rattle.decision.specs.Decision.{groupDecision, decisionOf}
 use Rattle.conflicts.specs.Related.{related, fits, bothFit, someValueFits, meetable, compatible, meetsSome}
 use Rattle.conflicts.proofs.Tables.{whole-contexts}
@@ -33,7 +33,7 @@ unfolding shop withParameter edges
     hierarchyBad usersBad parameterOk codeProduct clausesBad clauseBad clauseSlotBad contextsBad contextBad contextSlotBad contextConditionBad policiesBad policyBad exclusionsBad
     recordsRefusal refusalOf
     contextHolds weight
-    outOfRange lengthRefused someUnknown someTwice standsBefore someIneligible heldBy someWeightless sumOf permissionHolds groupDecision decisionOf
+    outOfRange lengthRefused someUnknown someTwice standsBefore someIneligible heldBy membersRefusal someWeightless sumOf permissionHolds groupDecision decisionOf
     fits bothFit someValueFits meetable compatible
 marked =
     record {

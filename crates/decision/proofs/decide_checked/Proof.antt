@@ -158,8 +158,8 @@ at16 c = at-weighed (c .before)
 
 test16 : (c : tie.After-some-weightless) → weightless (at16 c .start) ≡ c .some-weightless .result
 test16 c =
-    let r = at16 c in
-    sym (c .some-weightless .ensures ∙ weightless-same _ _ _ _ (group (r .start)) (r .facts .are) (r .facts .known .low))
+    let k = at16 c .facts in
+    sym (c .some-weightless .ensures ∙ weightless-same _ _ _ _ (group (at16 c .start)) (k .are) (k .known .low))
 
 abbrev past16 : tie.Else2 → Run Weighed left16
 past16 c = pass (at16 (c .before)) (passed 16 (test16 (c .before) ∙ c .if2 .left))
