@@ -22,7 +22,7 @@ use Rattle.decision.specs.Conditions.{roleNum, clauseHolds, clauseOfHolds, perm
 use Rattle.masks.specs.Clauses.{clausesOf, Checked, met, Narrowed, NarrowedAll}
 use Rattle.masks.specs.Sets.{spared, roleFits, SetsFor}
 use Rattle.masks.specs.Rows.{Joined, RowFor}
-use Rattle.multisets.specs.Search.{metBy}
+use Rattle.seek.specs.Search.{metBy}
 use Rattle.masks.proofs.Apart.{clause-apart}
 use Rattle.masks.proofs.SetMasks.{role-num-le}
 

@@ -8,7 +8,7 @@ use lib.ListN.{length, getD}
 use Rattle.folds.specs.Sets.{inSet}
 use Rattle.reader.specs.Tables.{clauses, recordCount}
 use Rattle.decision.specs.Conditions.{permissionHolds}
-use Rattle.multisets.specs.Search.{metBy}
+use Rattle.seek.specs.Search.{metBy}
 use Rattle.masks.specs.declared.Placed.{Placed}
 use Rattle.masks.specs.declared.Weighed.{Weighed}
 use Rattle.masks.specs.Clauses.{clausesOf, Checked}

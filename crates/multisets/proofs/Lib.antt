@@ -6,9 +6,6 @@ pub mod Nexts
 pub mod Filling
 pub mod Reach
 pub mod Turned
-pub mod Meeting
 pub mod Writing
 pub mod Bytes
 pub mod Rows
-pub mod Tried
-pub mod Eights

@@ -4,4 +4,3 @@ pub mod Standing
 pub mod Values
 pub mod Ends
 pub mod Levels
-pub mod Search

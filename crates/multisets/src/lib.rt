@@ -1,8 +1,7 @@
-// Multisets of at most six roles by rank, and a search for the smallest group over them.
-mod back;
+// Multisets of at most six roles by rank; their least ends, sums and sets, and the way back.
+pub mod back;
 pub mod ends;
 mod growth;
 pub mod levels;
 pub mod ranks;
-pub mod search;
-mod values;
+pub mod values;

@@ -16,7 +16,7 @@ use Rattle.folds.proofs.Bools.{met-or-not, clash, or-either}
 use Rattle.folds.proofs.Sets.{in-none, in-or, in-one}
 use Rattle.decision.specs.Conditions.{permissionHolds}
 use Rattle.multisets.specs.Rising.{Entry, Rises, entriesSum, entriesRoles}
-use Rattle.multisets.specs.Search.{metBy, byMasks, Meets, Sought, Answered}
+use Rattle.seek.specs.Search.{metBy, byMasks, Meets, Sought, Answered}
 use Rattle.masks.specs.declared.Placed.{Placed}
 use Rattle.masks.specs.declared.Weighed.{Weighed}
 use Rattle.report.specs.Search.{holdsWith, WeighedBelow, LastRow}

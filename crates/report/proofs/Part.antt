@@ -29,7 +29,7 @@ use Rattle.decision.specs.Conditions.{permissionHolds}
 use Rattle.decision.specs.Granting.{Granted}
 use Rattle.decision.proofs.Granting.{granted-by}
 use Rattle.report.specs.Smallest.{smallestOf}
-use Rattle.multisets.specs.Search.{Answered}
+use Rattle.seek.specs.Search.{Answered}
 use Rattle.masks.specs.Sets.{RoleCounts}
 use Rattle.report.specs.Search.{holdsWith, Seeking}
 use Rattle.report.specs.Parts.{ActingSets, PartFor}

@@ -15,7 +15,7 @@ use Rattle.reader.specs.Tables.{clauses, recordCount}
 use Rattle.decision.specs.Conditions.{permissionHolds}
 use Rattle.multisets.specs.Rising.{Entry, Rises, entriesSum, entriesRoles}
 use Rattle.multisets.specs.Ends.{NextEnds}
-use Rattle.multisets.specs.Search.{Ready, Answered}
+use Rattle.seek.specs.Search.{Ready, Answered}
 use Rattle.masks.specs.declared.Placed.{Placed}
 use Rattle.masks.specs.declared.Weighed.{Weighed}
 use Rattle.masks.specs.Clauses.{clausesOf}

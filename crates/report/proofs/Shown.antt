@@ -15,7 +15,7 @@ use Rattle.decision.specs.Groups.{entryUser}
 use Rattle.decision.specs.Conditions.{permissionHolds}
 use Rattle.decision.specs.Granting.{Granted}
 use Rattle.multisets.specs.Rising.{Entry, Rises, entriesSum, entriesRoles, bytesOf}
-use Rattle.multisets.specs.Search.{Meets, Sought, Answered, groupBytes}
+use Rattle.seek.specs.Search.{Meets, Sought, Answered, groupBytes}
 use Rattle.masks.specs.declared.Placed.{Placed}
 use Rattle.report.specs.Smallest.{smallest}
 use Rattle.report.specs.Search.{holdsWith}

@@ -2,8 +2,8 @@
 // no base.
 use crate::weighing;
 use masks::Placed;
-use multisets::search::Found;
 use reader::bytes;
+use seek::Found;
 ghost use mathlib.Core.Path.{_≡_};
 ghost use mathlib.Core.List.{List};
 ghost use Prim.Native.Nat.{ℕ, _+_, _-_, _*_, _^_, _≤_, _<_};
@@ -12,7 +12,7 @@ ghost use Rattle.multisets.specs.Ranks.{first, Starts};
 ghost use Rattle.multisets.specs.Ends.{NextEnds};
 ghost use Rattle.multisets.specs.Levels.{Levels};
 ghost use Rattle.multisets.specs.Values.{Light};
-ghost use Rattle.multisets.specs.Search.{Answered};
+ghost use Rattle.seek.specs.Search.{Answered};
 ghost use Rattle.report.specs.Search.{holdsWith, LastRow, Seeking};
 
 // The last row that isn't empty, or 0.
@@ -82,7 +82,7 @@ pub fn fewest(
     let mut by_set = [0u64; 256];
     let rows = masks::masks_for(k, own, w, weighed, start, counts, &mut by_sum, &mut by_set);
     let last = last_row(rows);
-    multisets::search::search(
+    seek::search(
         starts,
         d,
         bytes::wide(weighed.end),

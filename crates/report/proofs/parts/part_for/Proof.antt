@@ -10,7 +10,7 @@ use Rattle.reader.specs.Tables.{clauses, roleCount, tableOf}
 use Rattle.reader.proofs.Frame.{framed, permissions-le}
 use Rattle.reader.proofs.Accepted.{accepted-frame}
 use Rattle.weights.specs.Setting.{AreWeights}
-use Rattle.multisets.specs.Search.{Answered, groupBytes}
+use Rattle.seek.specs.Search.{Answered, groupBytes}
 use Rattle.multisets.specs.Rising.{bytesOf}
 use Rattle.multisets.specs.Ranks.{first}
 use Rattle.multisets.specs.Levels.{Levels}

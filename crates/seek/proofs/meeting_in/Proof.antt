@@ -7,10 +7,10 @@ use mathlib.Core.Bool.{Bool, true, false}
 use mathlib.Core.Logic.{⊎-elim}
 use native.Mathlib.Nat.{lt-irrefl, eq-or-lt-of-le, le-of-suc-le-suc}
 use native.Mathlib.Numerals.{add-one}
-use Rattle.multisets.specs.Search.{metBy, metAt, FoundIn}
-use Rattle.multisets.proofs.Eights.{fewer}
-use Rattle.multisets.proofs.search.meeting_in.Statement.{statement}
-use Rattle.multisets.proofs.search.meeting_in.Tie as tie
+use Rattle.seek.specs.Search.{metBy, metAt, FoundIn}
+use Rattle.seek.proofs.Eights.{fewer}
+use Rattle.seek.proofs.meeting_in.Statement.{statement}
+use Rattle.seek.proofs.meeting_in.Tie as tie
 
 -- the loop's invariant: no place before x passes the test
 record Turn (test : ℕ → Bool) (from end x : ℕ) : Type 0 where

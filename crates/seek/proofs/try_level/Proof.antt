@@ -6,18 +6,18 @@ use mathlib.Core.List.{List}
 use native.Mathlib.Omega.{arith}
 use lib.ListN.{length, getD}
 use native.Mathlib.Nat.{lt-of-lt-of-le, le-refl}
 use Rattle.multisets.specs.Ranks.{starts, first}
 use Rattle.multisets.specs.Ends.{NextEnds}
 use Rattle.multisets.specs.Values.{Held, sumAt}
 use Rattle.multisets.specs.Levels.{Levels}
-use Rattle.multisets.specs.Search.{Tables, Ready, FoundIn}
+use Rattle.seek.specs.Search.{Tables, Ready, FoundIn}
 use Rattle.multisets.proofs.Blocks.{starts-le}
 use Rattle.multisets.proofs.Places.{first-more, first-le, first-all}
 use Rattle.multisets.proofs.Nexts.{next-table}
-use Rattle.multisets.proofs.Meeting.{Made}
-use Rattle.multisets.proofs.Tried.{tried-none, tried-level}
-use Rattle.multisets.proofs.search.try_level.Statement.{statement}
-use Rattle.multisets.proofs.search.try_level.Tie as tie
+use Rattle.seek.proofs.ByPlace.{Made}
+use Rattle.seek.proofs.OneLevel.{tried-none, tried-level}
+use Rattle.seek.proofs.try_level.Statement.{statement}
+use Rattle.seek.proofs.try_level.Tie as tie
 
 -- the level's tables, of plain values
 module _ {d end n k : ℕ} {w nexts by-sum by-set t ends from roles sums : List ℕ} (placed : ℕ) (few : n ≤ 6)

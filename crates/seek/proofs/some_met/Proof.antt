@@ -4,12 +4,12 @@ use mathlib.Core.Path.{_≡_, refl, sym, ap, _∙_}
 use mathlib.Core.List.{List}
 use native.Mathlib.Omega.{arith}
 use lib.ListN.{length, getD}
-use Rattle.multisets.specs.Search.{SomeMet}
-use Rattle.multisets.proofs.Eights.{some-none, some-more}
+use Rattle.seek.specs.Search.{SomeMet}
+use Rattle.seek.proofs.Eights.{some-none, some-more}
 use mir.Val.{Fits}
 use mir.Syntax.{w8}
-use Rattle.multisets.proofs.search.some_met.Statement.{statement}
-use Rattle.multisets.proofs.search.some_met.Tie as tie
+use Rattle.seek.proofs.some_met.Statement.{statement}
+use Rattle.seek.proofs.some_met.Tie as tie
 
 abbrev Inv-loop : tie.InvT-loop
 Inv-loop sums roles by-sum by-set x all₀ i₀ all i = (i ≤ 8) × SomeMet sums roles by-sum by-set x i all

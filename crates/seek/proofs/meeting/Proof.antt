@@ -4,10 +4,10 @@ use mathlib.Core.Path.{_≡_, refl, sym, ap, _∙_}
 use mathlib.Core.List.{List}
 use native.Mathlib.Omega.{arith}
 use mathlib.Core.Bool.{Bool, false}
-use Rattle.multisets.specs.Search.{metBy, metAt, FoundIn}
-use Rattle.multisets.proofs.Eights.{none-past, found-past, found-within, fewer}
-use Rattle.multisets.proofs.search.meeting.Statement.{statement}
-use Rattle.multisets.proofs.search.meeting.Tie as tie
+use Rattle.seek.specs.Search.{metBy, metAt, FoundIn}
+use Rattle.seek.proofs.Eights.{none-past, found-past, found-within, fewer}
+use Rattle.seek.proofs.meeting.Statement.{statement}
+use Rattle.seek.proofs.meeting.Tie as tie
 
 -- the loop's invariant: no place before x passes the test
 record Turn (test : ℕ → Bool) (from end x : ℕ) : Type 0 where

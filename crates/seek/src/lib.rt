@@ -1,19 +1,19 @@
 // The fewest entries that meet a condition, told by masks of clauses.
-use crate::back;
-use crate::levels;
-use crate::ranks::first_in;
-use crate::ranks::start_in;
-use crate::values;
+use multisets::back;
+use multisets::levels;
+use multisets::ranks::first_in;
+use multisets::ranks::start_in;
+use multisets::values;
 ghost use mathlib.Core.Path.{_≡_};
 ghost use mathlib.Core.List.{List};
 ghost use Prim.Native.Nat.{ℕ, suc, _+_, _*_, _≤_, _<_};
 ghost use lib.ListN.{length, getD};
 ghost use Rattle.multisets.specs.Ranks.{first, Starts};
 ghost use Rattle.multisets.specs.Ends.{NextEnds};
 ghost use Rattle.multisets.specs.Values.{Held, sumAt};
 ghost use Rattle.multisets.specs.Levels.{Levels};
-ghost use Rattle.multisets.specs.Search.{Tables, metBy, byMasks, metAt, SomeMet, FoundIn};
-ghost use Rattle.multisets.specs.Search.{Ready, TriedAt, Answered};
+ghost use Rattle.seek.specs.Search.{Tables, metBy, byMasks, metAt, SomeMet, FoundIn};
+ghost use Rattle.seek.specs.Search.{Ready, TriedAt, Answered};
 
 // Some clause of the row is met by the sum and by the set of place x, and it is reached.
 fn met_at(

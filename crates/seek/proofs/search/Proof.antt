@@ -13,16 +13,16 @@ use borrow.Author.Tests.{leb-true, leb-false}
 use lib.Dec.{leb}
 use lib.ListN.{replicate}
 use Rattle.folds.proofs.Bools.{met-or-not}
 use Rattle.multisets.specs.Ranks.{first}
 use Rattle.multisets.specs.Rising.{Entry}
 use Rattle.multisets.specs.Standing.{bytesBack}
 use Rattle.multisets.specs.Ends.{NextEnds, WayIn, backOf}
 use Rattle.multisets.specs.Values.{Held, sumAt}
 use Rattle.multisets.specs.Levels.{Levels}
-use Rattle.multisets.specs.Search.{byMasks, metBy, Meets, FoundBack, TriedAt, Sought, Answered}
+use Rattle.seek.specs.Search.{byMasks, metBy, Meets, FoundBack, TriedAt, Sought, Answered}
 use Rattle.multisets.proofs.Places.{first-0, first-all}
-use Rattle.multisets.proofs.search.search.Statement.{statement}
-use Rattle.multisets.proofs.search.search.Tie as tie
+use Rattle.seek.proofs.search.Statement.{statement}
+use Rattle.seek.proofs.search.Tie as tie
 
 -- the lent tables keep their lengths
 record Same (t₀ ends₀ from₀ roles₀ sums₀ t ends from roles sums : List ℕ) : Type 0 where

@@ -17,7 +17,7 @@ use Rattle.folds.specs.Below.{anyBelow}
 use Rattle.folds.proofs.Bools.{met-or-not, clash, and-left, and-right, and-both}
 use Rattle.folds.proofs.Tests.{any-some}
 use Rattle.folds.proofs.Sets.{in-and, in-or, in-none, meet-some}
-use Rattle.multisets.specs.Search.{Tables, metBy, metAt, SomeMet, FoundIn}
+use Rattle.seek.specs.Search.{Tables, metBy, metAt, SomeMet, FoundIn}
 
 below-power : (n : ℕ) → n < 2 ^ n
 below-power zero = lit< tt

@@ -13,18 +13,18 @@ use lib.ListN.{length, getD}
 use Rattle.folds.specs.Sets.{inSet}
 use Rattle.folds.proofs.Bools.{and-left, and-right, and-both}
 use Rattle.folds.proofs.Sets.{in-added}
 use Rattle.multisets.specs.Ranks.{starts, first, rankOf, Roles, total}
 use Rattle.multisets.specs.Rising.{Entry, Rises, entriesSum, entriesRoles, bytesOf}
 use Rattle.multisets.specs.Standing.{endOf, Stands, rolesOf, bytesBack}
 use Rattle.multisets.specs.Values.{sumOf, setOf, Held, sumAt, setAt}
 use Rattle.multisets.specs.Ends.{NextEnds, Filled, Back, backOf}
-use Rattle.multisets.specs.Search.{metAt}
+use Rattle.seek.specs.Search.{metAt}
 use Rattle.multisets.proofs.Blocks.{starts-le, rank-lt, rank-total, roles-le}
 use Rattle.multisets.proofs.Places.{place-lt, first-more}
 use Rattle.multisets.proofs.Sets.{set-of-is, set-at-low}
 use Rattle.multisets.proofs.Reach.{stands-roles, roles-length, end-few, least-of, back-of}
 use Rattle.multisets.proofs.Turned.{turned, turned-length, turned-sum, turned-roles, bytes-turned}
 use Rattle.multisets.proofs.Turned.{sum-roles, set-roles, Heavy, rises-stands, rises-roles, stands-rises}
 
 -- where the roles of a list's set have weight, those of the list have
 set-heavy : (w z : List ℕ) → Roles 8 z → ((r : ℕ) → r < 8 → inSet (setOf z) r ≡ true → 0 < getD w r 0) → Heavy w z

@@ -10,8 +10,8 @@ use lib.ListN.{getD}
 use mir.Val.{Fits}
 use mir.Syntax.{w8}
 use Rattle.folds.proofs.Bools.{met-or-not}
-use Rattle.multisets.proofs.search.met_at.Statement.{statement}
-use Rattle.multisets.proofs.search.met_at.Tie as tie
+use Rattle.seek.proofs.met_at.Statement.{statement}
+use Rattle.seek.proofs.met_at.Tie as tie
 
 -- what a run knows at each place: the entry, and that the elements read are bytes
 record Here : Type 0 where

@@ -11,10 +11,10 @@ use lib.Dec.{eqb}
 use lib.ListN.{length, getD}
 use Rattle.folds.specs.Sets.{inSet}
 use Rattle.folds.proofs.Bools.{clash}
 use Rattle.multisets.specs.Ranks.{starts, first}
 use Rattle.multisets.specs.Rising.{Entry, entriesSum, entriesRoles}
-use Rattle.multisets.specs.Search.{metBy, metAt, FoundIn, Asked, Meets, FoundBack, TriedAt}
-use Rattle.multisets.proofs.Meeting.{Made, place-meets, found-meets}
+use Rattle.seek.specs.Search.{metBy, metAt, FoundIn, Asked, Meets, FoundBack, TriedAt}
+use Rattle.seek.proofs.ByPlace.{Made, place-meets, found-meets}
 
 module _ (by-sum by-set : List ℕ) where
   -- no clause is met by an empty row, nor by a set whose mask is empty

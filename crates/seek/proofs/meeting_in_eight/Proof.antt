@@ -4,10 +4,10 @@ use mathlib.Core.Path.{_≡_, refl, sym, ap, _∙_}
 use mathlib.Core.List.{List}
 use native.Mathlib.Omega.{arith}
 use lib.ListN.{length, getD}
-use Rattle.multisets.specs.Search.{Tables}
-use Rattle.multisets.proofs.Eights.{eight-missed}
-use Rattle.multisets.proofs.search.meeting_in_eight.Statement.{statement}
-use Rattle.multisets.proofs.search.meeting_in_eight.Tie as tie
+use Rattle.seek.specs.Search.{Tables}
+use Rattle.seek.proofs.Eights.{eight-missed}
+use Rattle.seek.proofs.meeting_in_eight.Statement.{statement}
+use Rattle.seek.proofs.meeting_in_eight.Tie as tie
 
 abbrev entered3 : tie.After-shared-slice-known3 → tie.Start
 entered3 c = c .before .before .before

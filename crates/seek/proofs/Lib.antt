@@ -1,0 +1,3 @@
+pub mod ByPlace
+pub mod Eights
+pub mod OneLevel
