@@ -14,7 +14,7 @@ use Rattle.folds.proofs.Bools.{met-or-not}
 use Rattle.folds.proofs.Numbers.{sum-step, sum-le-sum}
 use Rattle.folds.proofs.Tests.{first-is, first-lt, first-at, first-least, any-found}
 use Rattle.multisets.specs.Ranks.{starts, first, top, total, more, rankOf, Roles}
-use Rattle.multisets.specs.Values.{sumOf}
+use Rattle.multisets.specs.Values.{sumOver}
 
 -- a block is as long as there are multisets of a role less
 pub block : (n r : ℕ) → starts (suc n) (suc r) ≡ starts (suc n) r + starts n (suc r)
@@ -195,7 +195,7 @@ rank-lt d most (r ∷ z) roles =
     more-lt (length z) (rankOf z) r some (lt-of-lt-of-le (roles .0) most) d k (roles .0)
 
 -- and the multiset of that rank has these roles
-pub rank-total : (f : ℕ → ℕ) (z : List ℕ) → Roles 8 z → total f (length z) (rankOf z) ≡ sumOf f z
+pub rank-total : (f : ℕ → ℕ) (z : List ℕ) → Roles 8 z → total f (length z) (rankOf z) ≡ sumOver f z
 rank-total f [] roles = total-none f 0
 rank-total f (r ∷ z) roles =
     more-total (length z) (rankOf z) r (rank-lt 8 (omega arith) z (roles .1)) (roles .0) f

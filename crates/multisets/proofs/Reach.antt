@@ -16,7 +16,7 @@ use Rattle.folds.proofs.Tests.{first-at, first-least, first-le}
 use Rattle.folds.proofs.Sets.{in-none}
 use Rattle.multisets.specs.Ranks.{starts, first, more, rankOf, Roles}
 use Rattle.multisets.specs.Rising.{Entry}
-use Rattle.multisets.specs.Standing.{Acts, endOf, Stands, rolesOf}
+use Rattle.multisets.specs.Standing.{Acts, endOf, Stands, roleList}
 use Rattle.multisets.specs.Ends.{Next, NextEnd, NextEnds, Grows, Came, Filled, backOf, Way, Back}
 use Rattle.multisets.proofs.Blocks.{rank-lt}
 use Rattle.multisets.proofs.Places.{first-more, first-0, first-1, place-lt, one-level, grows-lt}
@@ -75,11 +75,11 @@ module _ (sets : List ℕ) where
           absurd (n .none h v (lt-of-le-of-lt m (acting-there u r e)) x)
 
 -- the roles of a group that stands
-pub stands-roles : (sets : List ℕ) (d : ℕ) (g : List Entry) → Stands sets d g → Roles d (rolesOf g)
+pub stands-roles : (sets : List ℕ) (d : ℕ) (g : List Entry) → Stands sets d g → Roles d (roleList g)
 stands-roles sets d [] s = tt
 stands-roles sets d (e ∷ g) s = (s .1 .role, stands-roles sets d g (s .2))
 
-pub roles-length : (g : List Entry) → length (rolesOf g) ≡ length g
+pub roles-length : (g : List Entry) → length (roleList g) ≡ length g
 roles-length [] = refl
 roles-length (e ∷ g) = ap suc (roles-length g)
 
@@ -94,11 +94,11 @@ module _ {sets nexts : List ℕ} (next-ends : NextEnds sets nexts) {d : ℕ} (mo
 
   module _ {k : ℕ} {ends from : List ℕ} (f : Filled d nexts k ends from) where
     -- no group ends before the end at its roles
-    pub least-of : (g : List Entry) → Stands sets d g → length (rolesOf g) ≤ 6 → 8 * first d (length (rolesOf g)) ≤ k →
-        getD ends (first d (length (rolesOf g)) + rankOf (rolesOf g)) 0 ≤ endOf g
+    pub least-of : (g : List Entry) → Stands sets d g → length (roleList g) ≤ 6 → 8 * first d (length (roleList g)) ≤ k →
+        getD ends (first d (length (roleList g)) + rankOf (roleList g)) 0 ≤ endOf g
     least-of [] s few done = let z : first d 0 + 0 ≡ 0 = omega (arith, first-0 d) in rw (z, f .none) (omega arith)
     least-of (e ∷ g) s few done =
-        let z = rolesOf g in
+        let z = roleList g in
         let n = length z in
         let m = rankOf z in
         let q = e .role in
@@ -159,8 +159,8 @@ module _ {sets nexts : List ℕ} (next-ends : NextEnds sets nexts) {d : ℕ} (mo
           let is-user : getD ends x 0 - 1 ≡ u = omega arith in
           let after = next .low in
           let nearer = b .end in
-          let size : length (rolesOf g) ≡ n = roles-length g ∙ b .many in
-          let rank : rankOf (rolesOf g) ≡ c .m = (let e = b .place in let p = place-is in omega arith) in
+          let size : length (roleList g) ≡ n = roles-length g ∙ b .many in
+          let rank : rankOf (roleList g) ≡ c .m = (let e = b .place in let p = place-is in omega arith) in
           record {
             stands = (
               rw (b .end, is-user) after,

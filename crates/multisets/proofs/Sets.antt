@@ -12,7 +12,7 @@ use lib.ListN.{length}
 use Rattle.folds.specs.Sets.{inSet, setBelow}
 use Rattle.folds.proofs.Sets.{in-set, in-none, in-added, same-set, set-lt}
 use Rattle.multisets.specs.Ranks.{starts, total, rankOf, Roles}
-use Rattle.multisets.specs.Values.{sumOf, setOf, one-if, setAt}
+use Rattle.multisets.specs.Values.{sumOver, setOf, one-if, setAt}
 use Rattle.folds.proofs.Numbers.{sum-tail}
 use Rattle.multisets.proofs.Blocks.{total-none, total-block, total-le, rank-total}
 
@@ -49,12 +49,12 @@ set-none-is =
     (λ k l. in-set-at 0 0 k l ∙ rw (total-none (one-if k) 0) (sym (in-none k)))
 
 -- the set of a list has the roles of which there are some
-in-set-of : (z : List ℕ) (k : ℕ) → inSet (setOf z) k ≡ ltb 0 (sumOf (one-if k) z)
+in-set-of : (z : List ℕ) (k : ℕ) → inSet (setOf z) k ≡ ltb 0 (sumOver (one-if k) z)
 in-set-of [] k = in-none k
 in-set-of (r ∷ z) k =
-    let e : one-if k r + sumOf (one-if k) z ≡ sumOf (one-if k) z + one-if k r = omega arith in
+    let e : one-if k r + sumOver (one-if k) z ≡ sumOver (one-if k) z + one-if k r = omega arith in
     rw (or-comm (2 ^ r) (setOf z))
-    (in-added (setOf z) r k ∙ rw (in-set-of z k, e) (sym (one-more (sumOf (one-if k) z) (eqb r k))))
+    (in-added (setOf z) r k ∙ rw (in-set-of z k, e) (sym (one-more (sumOver (one-if k) z) (eqb r k))))
 
 pub set-of-lt : (d : ℕ) (z : List ℕ) → Roles d z → setOf z < 2 ^ d
 set-of-lt d [] h = pow-pos d

@@ -10,8 +10,8 @@ use lib.Bits.{bitOr, or-comm, or-zero-l}
 use Rattle.folds.proofs.Sets.{or-assoc}
 use Rattle.multisets.specs.Ranks.{Roles}
 use Rattle.multisets.specs.Rising.{Entry, May, Rises, entriesSum, entriesRoles, bytesOf}
-use Rattle.multisets.specs.Standing.{Acts, endOf, Stands, rolesOf, bytesBack}
-use Rattle.multisets.specs.Values.{sumOf, setOf}
+use Rattle.multisets.specs.Standing.{Acts, endOf, Stands, roleList, bytesBack}
+use Rattle.multisets.specs.Values.{sumOver, setOf}
 
 -- the entries of g, turned round, before those of h
 abbrev pub turned : List Entry → List Entry → List Entry
@@ -44,11 +44,11 @@ bytes-turned [] h = refl
 bytes-turned (e ∷ g) h = bytes-turned g (e ∷ h) ∙ sym (append-assoc (bytesBack g) (e .user ∷ e .role ∷ []) (bytesOf h))
 
 -- sum and set are those of the roles
-pub sum-roles : (w : List ℕ) (g : List Entry) → entriesSum w g ≡ sumOf (λ r. getD w r 0) (rolesOf g)
+pub sum-roles : (w : List ℕ) (g : List Entry) → entriesSum w g ≡ sumOver (λ r. getD w r 0) (roleList g)
 sum-roles w [] = refl
 sum-roles w (e ∷ g) = rw (sum-roles w g)
 
-pub set-roles : (g : List Entry) → entriesRoles g ≡ setOf (rolesOf g)
+pub set-roles : (g : List Entry) → entriesRoles g ≡ setOf (roleList g)
 set-roles [] = refl
 set-roles (e ∷ g) = rw (set-roles g)
 
@@ -69,7 +69,7 @@ module _ (sets w : List ℕ) where
 
   -- the roles turned round are below d too
   pub rises-roles : (d from : ℕ) → ((r : ℕ) → r < 8 → 0 < getD w r 0 → r < d) →
-      (g h : List Entry) → Rises sets w from g → Roles d (rolesOf h) → Roles d (rolesOf (turned g h))
+      (g h : List Entry) → Rises sets w from g → Roles d (roleList h) → Roles d (roleList (turned g h))
   rises-roles d from roles [] h r s = s
   rises-roles d from roles (e ∷ g) h r s =
       let m = r .1 in
@@ -81,7 +81,7 @@ module _ (sets w : List ℕ) where
   rises-less a b (e ∷ g) h r = (le-trans h (r .0), r .1, r .2)
 
   -- entries that stand, whose roles have weight, rise the other way round before those of h
-  pub stands-rises : (d : ℕ) → d ≤ 8 → (g h : List Entry) → Stands sets d g → Heavy w (rolesOf g) →
+  pub stands-rises : (d : ℕ) → d ≤ 8 → (g h : List Entry) → Stands sets d g → Heavy w (roleList g) →
       Rises sets w (endOf g) h → Rises sets w 0 (turned g h)
   stands-rises d most [] h s heavy r = r
   stands-rises d most (e ∷ g) h s heavy r =

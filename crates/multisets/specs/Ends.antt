@@ -8,7 +8,7 @@ use lib.ListN.{length, getD, set}
 use Rattle.folds.specs.Sets.{inSet}
 use Rattle.multisets.specs.Ranks.{starts, first, more, rankOf}
 use Rattle.multisets.specs.Rising.{Entry}
-use Rattle.multisets.specs.Standing.{Stands, endOf, rolesOf}
+use Rattle.multisets.specs.Standing.{Stands, endOf, roleList}
 
 -- u is the first user from `from` on who may act in role r, or the number of users
 pub record Next (sets : List ℕ) (from r u : ℕ) : Type 0 where
@@ -90,5 +90,5 @@ pub record Back (sets : List ℕ) (d n x : ℕ) (ends from : List ℕ) : Type 0 
   pub stands : Stands sets d (backOf ends from n x)
   pub many : length (backOf ends from n x) ≡ n
   pub end : endOf (backOf ends from n x) ≡ getD ends x 0
-  pub place : first d n + rankOf (rolesOf (backOf ends from n x)) ≡ x
+  pub place : first d n + rankOf (roleList (backOf ends from n x)) ≡ x
   pub way : Way (first d 7) ends from n x

@@ -24,9 +24,9 @@ Stands sets d [] = Unit {0}
 Stands sets d (e ∷ g) = (endOf g ≤ e .user) × Acts sets d e × Stands sets d g
 
 -- the roles acted in
-abbrev pub rolesOf : List Entry → List ℕ
-rolesOf [] = []
-rolesOf (e ∷ g) = e .role ∷ rolesOf g
+abbrev pub roleList : List Entry → List ℕ
+roleList [] = []
+roleList (e ∷ g) = e .role ∷ roleList g
 
 -- the bytes of the group, by rising user
 abbrev pub bytesBack : List Entry → List ℕ

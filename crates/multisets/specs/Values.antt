@@ -10,9 +10,9 @@ use Rattle.folds.specs.Sets.{setBelow}
 use Rattle.multisets.specs.Ranks.{starts, first, total}
 
 -- the sum of f over a list of roles
-abbrev pub sumOf : (ℕ → ℕ) → List ℕ → ℕ
-sumOf f [] = 0
-sumOf f (r ∷ z) = f r + sumOf f z
+abbrev pub sumOver : (ℕ → ℕ) → List ℕ → ℕ
+sumOver f [] = 0
+sumOver f (r ∷ z) = f r + sumOver f z
 
 -- the set of a list of roles
 abbrev pub setOf : List ℕ → ℕ

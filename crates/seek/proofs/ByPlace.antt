@@ -15,8 +15,8 @@ use Rattle.folds.proofs.Bools.{and-left, and-right, and-both}
 use Rattle.folds.proofs.Sets.{in-added}
 use Rattle.multisets.specs.Ranks.{starts, first, rankOf, Roles, total}
 use Rattle.multisets.specs.Rising.{Entry, Rises, entriesSum, entriesRoles, bytesOf}
-use Rattle.multisets.specs.Standing.{endOf, Stands, rolesOf, bytesBack}
-use Rattle.multisets.specs.Values.{sumOf, setOf, Held, sumAt, setAt}
+use Rattle.multisets.specs.Standing.{endOf, Stands, roleList, bytesBack}
+use Rattle.multisets.specs.Values.{sumOver, setOf, Held, sumAt, setAt}
 use Rattle.multisets.specs.Ends.{NextEnds, Filled, Back, backOf}
 use Rattle.seek.specs.Search.{metAt}
 use Rattle.multisets.proofs.Blocks.{starts-le, rank-lt, rank-total, roles-le}
@@ -70,7 +70,7 @@ module _ {sets w : List ℕ} {placed d e n : ℕ} {ends from roles sums : List �
     wide : rankOf z < starts n d
     wide = lt-of-lt-of-le low (starts-le n e d end)
 
-    sum-there : getD sums (first d n + rankOf z) 0 ≡ placed + sumOf (λ r. getD w r 0) z
+    sum-there : getD sums (first d n + rankOf z) 0 ≡ placed + sumOver (λ r. getD w r 0) z
     sum-there =
         made .added .each n (rankOf z) (made .few) low (lt-of-lt-of-le (place-lt d n (rankOf z) wide) (made .added-up))
         ∙ ap (λ (s : ℕ). placed + s) (rw (← size) (rank-total (λ r. getD w r 0) z all))
@@ -96,7 +96,7 @@ module _ {sets w : List ℕ} {placed d e n : ℕ} {ends from roles sums : List �
         h = turned g []
 
         z : List ℕ
-        z = rolesOf h
+        z = roleList h
 
         size : length z ≡ n
         size = roles-length h ∙ turned-length g [] ∙ add-zero (length g) ∙ many
@@ -163,7 +163,7 @@ module _ {sets w : List ℕ} {placed d e n : ℕ} {ends from roles sums : List �
         h = backOf ends from n x
 
         z : List ℕ
-        z = rolesOf h
+        z = roleList h
 
         all : Roles 8 z
         all = roles-le d 8 most z (stands-roles sets d h (back .stands))
@@ -177,10 +177,10 @@ module _ {sets w : List ℕ} {placed d e n : ℕ} {ends from roles sums : List �
         small : setOf z < 2 ^ e
         small = set-low z size rank all
 
-        holds : condition (placed + sumOf (λ r. getD w r 0) z) (setOf z) ≡ true
+        holds : condition (placed + sumOver (λ r. getD w r 0) z) (setOf z) ≡ true
         holds = rw (sum-there z size rank all, set-there z size rank all) at (rw (← back .place) at holds-there)
 
-        sum : placed + entriesSum w (turned h []) ≡ placed + sumOf (λ r. getD w r 0) z
+        sum : placed + entriesSum w (turned h []) ≡ placed + sumOver (λ r. getD w r 0) z
         sum = ap (λ (s : ℕ). placed + s) (turned-sum w h [] ∙ add-zero (entriesSum w h) ∙ sum-roles w h)
 
         set : entriesRoles (turned h []) ≡ setOf z
