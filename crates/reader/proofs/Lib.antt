@@ -1,3 +1,4 @@
 pub mod Frame
+mod Passed
 pub mod Parameter
 pub mod Accepted
