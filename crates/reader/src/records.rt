@@ -1,4 +1,5 @@
 // The records of H, A and X: refusals 4, 8 and 9.
+// A record's tests are joined by `|`, not `||`: one path to prove.
 ghost use mathlib.Core.Path.{_≡_};
 ghost use Prim.Native.Nat.{_+_, _*_, _≤_};
 ghost use lib.ListN.{length};
@@ -9,10 +10,9 @@ pub fn hierarchy_bad(h: &[u8], roles: u8) -> bool
     ensures { λ r. ⌜ r ≡ hierarchyBad roles (now (h .entry)) ⌝ }
 {
     for i in 0..h.len() / 2 {
-        if h[2 * i + 1] <= h[2 * i] {
-            return true;
-        }
-        if roles <= h[2 * i + 1] {
+        let at = 2 * i;
+        let junior = h[at + 1];
+        if (junior <= h[at]) | (roles <= junior) {
             return true;
         }
     }
@@ -23,22 +23,15 @@ fn policy_bad(a: &[u8], i: usize, roles: u8, permissions: u8) -> bool
     requires { ⌜ 8 * i + 8 ≤ length (now a) ⌝ }
     ensures { λ r. ⌜ r ≡ policyBad roles permissions (now (a .entry)) i ⌝ }
 {
-    if roles <= a[8 * i] {
-        return true;
-    }
-    if permissions <= a[8 * i + 1] {
-        return true;
-    }
-    if a[8 * i + 2] < 1 {
-        return true;
-    }
-    if 5 < a[8 * i + 2] {
-        return true;
-    }
-    if 1 < a[8 * i + 3] {
-        return true;
-    }
-    15 < a[8 * i + 4] && a[8 * i + 4] != 255
+    let at = 8 * i;
+    let weight = a[at + 2];
+    let context = a[at + 4];
+    (roles <= a[at])
+        | (permissions <= a[at + 1])
+        | (weight < 1)
+        | (5 < weight)
+        | (1 < a[at + 3])
+        | ((15 < context) & (context != 255))
 }
 
 // Inner: refusal 8.
@@ -57,16 +50,11 @@ fn exclusion_bad(x: &[u8], i: usize, roles: u8, permissions: u8) -> bool
     requires { ⌜ 3 * i + 3 ≤ length (now x) ⌝ }
     ensures { λ r. ⌜ r ≡ exclusionBad roles permissions (now (x .entry)) i ⌝ }
 {
-    if 1 < x[3 * i] {
-        return true;
-    }
-    if x[3 * i + 2] <= x[3 * i + 1] {
-        return true;
-    }
-    if x[3 * i] == 0 {
-        return roles <= x[3 * i + 2];
-    }
-    permissions <= x[3 * i + 2]
+    let at = 3 * i;
+    let kind = x[at];
+    let second = x[at + 2];
+    let end = if kind == 0 { roles } else { permissions };
+    (1 < kind) | (second <= x[at + 1]) | (end <= second)
 }
 
 // Inner: refusal 9.

@@ -1,50 +1,46 @@
-use borrow.Author.Tests.{ne-eqb, eq-eqb, lt-ltb, le-ltb}
+-- `exclusion_bad` meets its contract: its tests are the contract's, and `end` is chosen as there.
+use Prim.Native.Nat.{ℕ}
+use mathlib.Core.Bool.{cond, _||_, or-assoc}
+use mathlib.Core.List.{List}
+use mathlib.Core.Logic.{⊎-elim}
+use mathlib.Core.Path.{_≡_, sym, _∙_}
+use lib.Dec.{ltb, leb, eqb}
+use borrow.Author.Tests.{eq-eqb, ne-eqb}
+use Rattle.folds.proofs.Bools.{not-ltb, met, passed}
+use Rattle.reader.specs.Fields.{exclusionKind, exclusionFirst, exclusionSecond}
 use Rattle.reader.specs.Rules.{exclusionBad}
-use Rattle.folds.proofs.Bools.{not-ltb}
 use borrow.Author.Needs.{needs}
 use Rattle.reader.proofs.records.exclusion_bad.Statement.{statement}
 use Rattle.reader.proofs.records.exclusion_bad.Tie as tie
 
-mul-if1 : tie.Need-mul-if1
-mul-if1 c = search needs
-
-shared-slice-read-if1 : tie.Need-shared-slice-read-if1
-shared-slice-read-if1 c = search needs
-
-returns : tie.Need-returns
+-- the test as the code has it, of plain values
+test : (R P : ℕ) (x : List ℕ) (i : ℕ) {end : ℕ} → end ≡ cond (eqb (exclusionKind x i) 0) R P →
+    (ltb 1 (exclusionKind x i) || leb (exclusionSecond x i) (exclusionFirst x i) || leb end (exclusionSecond x i))
+    ≡ exclusionBad R P x i
 unfolding exclusionBad
-returns c = rw (lt-ltb _ _ (c .if1 .taken))
+test R P x i end-is = simp (end-is, not-ltb, or-assoc)
 
-mul-if2 : tie.Need-mul-if2
-mul-if2 c = search needs
+abbrev entered : tie.Joined1 → tie.Start
+entered c = c .before .before .before
 
-add-if2 : tie.Need-add-if2
-add-if2 c = search needs
+-- where the arms meet: the first number past those of the kind
+end-of : (c : tie.Joined1) → let s = entered c .args in
+    c .if1 .end ≡ cond (eqb (exclusionKind (s .x .now) (s .i)) 0) (s .roles) (s .permissions)
+end-of c =
+    ⊎-elim (λ d. d .1 ∙ met _ (eq-eqb _ _ (d .0 .taken))) (λ d. d .1 ∙ sym (passed _ (ne-eqb _ _ (d .0 .left))))
+    (c .if1 .came)
 
-shared-slice-read-if2 : tie.Need-shared-slice-read-if2
-shared-slice-read-if2 c = search needs
+mul-at : tie.Need-mul-at
+mul-at c = search needs
 
-mul-if2-2 : tie.Need-mul-if2-2
-mul-if2-2 c = search needs
+shared-slice-read-kind : tie.Need-shared-slice-read-kind
+shared-slice-read-kind c = search needs
 
-add-if2-2 : tie.Need-add-if2-2
-add-if2-2 c = search needs
+add-second : tie.Need-add-second
+add-second c = search needs
 
-shared-slice-read-if2-2 : tie.Need-shared-slice-read-if2-2
-shared-slice-read-if2-2 c = search needs
-
-returns-2 : tie.Need-returns-2
-unfolding exclusionBad
-returns-2 c = rw (le-ltb _ _ (c .before .before .before .if1 .left), le-ltb _ _ (c .if2 .taken))
-
-mul-if3 : tie.Need-mul-if3
-mul-if3 c = search needs
-
-shared-slice-read-if3 : tie.Need-shared-slice-read-if3
-shared-slice-read-if3 c = search needs
-
-mul-result : tie.Need-mul-result
-mul-result c = search needs
+shared-slice-read-second : tie.Need-shared-slice-read-second
+shared-slice-read-second c = search needs
 
 add-result : tie.Need-add-result
 add-result c = search needs
@@ -52,44 +48,19 @@ add-result c = search needs
 shared-slice-read-result : tie.Need-shared-slice-read-result
 shared-slice-read-result c = search needs
 
-returns-3 : tie.Need-returns-3
-unfolding exclusionBad
-returns-3 c = rw (le-ltb _ _ (c .before .before .before .before .before .before .if1 .left), lt-ltb _ _ (c .before .before .before .if2 .left), eq-eqb _ _ (c .before .if3 .taken), not-ltb)
-
-mul-result-2 : tie.Need-mul-result-2
-mul-result-2 c = search needs
-
-add-result-2 : tie.Need-add-result-2
-add-result-2 c = search needs
-
-shared-slice-read-result-2 : tie.Need-shared-slice-read-result-2
-shared-slice-read-result-2 c = search needs
-
-returns-4 : tie.Need-returns-4
-unfolding exclusionBad
-returns-4 c = rw (le-ltb _ _ (c .before .before .before .before .before .before .if1 .left), lt-ltb _ _ (c .before .before .before .if2 .left), ne-eqb _ _ (c .before .if3 .left), not-ltb)
+returns : tie.Need-returns
+returns c =
+    let s = entered (c .before) .args in
+    test (s .roles) (s .permissions) (s .x .now) (s .i) (end-of (c .before))
 
 pub exclusion-bad-spec : {M : Type 1} → statement M
 exclusion-bad-spec =
     tie.close
     (tie.spec
-    mul-if1
-    shared-slice-read-if1
-    returns
-    mul-if2
-    add-if2
-    shared-slice-read-if2
-    mul-if2-2
-    add-if2-2
-    shared-slice-read-if2-2
-    returns-2
-    mul-if3
-    shared-slice-read-if3
-    mul-result
+    mul-at
+    shared-slice-read-kind
+    add-second
+    shared-slice-read-second
     add-result
     shared-slice-read-result
-    returns-3
-    mul-result-2
-    add-result-2
-    shared-slice-read-result-2
-    returns-4)
+    returns)

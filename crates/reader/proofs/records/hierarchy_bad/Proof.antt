@@ -1,56 +1,58 @@
-use Prim.Native.Nat.{_≤_, _-_, _/_}
-use mathlib.Core.Path.{_≡_, sym}
-use mathlib.Core.Bool.{false}
-use borrow.Author.Tests.{lt-ltb, le-ltb}
+-- `hierarchy_bad` meets its contract: the loop passes the records that aren't bad. Its test is the contract's.
+use Prim.Native.Nat.{ℕ, _-_, _/_}
+use mathlib.Core.Bool.{_||_}
+use mathlib.Core.List.{List}
+use mathlib.Core.Path.{_≡_, _∙_}
+use lib.Dec.{leb}
 use lib.ListN.{length}
+use Rattle.folds.proofs.Bools.{not-ltb}
+use Rattle.reader.specs.Fields.{senior, junior}
 use Rattle.reader.specs.Rules.{hierarchyBad, hierarchyRecordBad}
-use Rattle.folds.specs.Below.{anyBelow}
-use Rattle.folds.proofs.Tests.{any-none, any-more, any-found}
-use native.Mathlib.Omega.{arith}
+use Rattle.reader.proofs.Passed.{Passed, passed-none, passed-more, some-bad, none-bad}
 use borrow.Author.Needs.{needs}
 use Rattle.reader.proofs.records.hierarchy_bad.Statement.{statement}
 use Rattle.reader.proofs.records.hierarchy_bad.Tie as tie
 
 abbrev Inv-loop : tie.InvT-loop
-Inv-loop h roles i₀ i-end i = (i ≤ length h / 2) × (anyBelow i (hierarchyRecordBad roles h) ≡ false)
+Inv-loop h roles i₀ i-end i = Passed (length h / 2) (hierarchyRecordBad roles h) i
 
 abbrev μ-loop : tie.MeasureT-loop
 μ-loop h roles i₀ i-end i = length h / 2 - i
 
+-- the test as the code has it, of plain values
+test : (R : ℕ) (h : List ℕ) (i : ℕ) →
+    hierarchyRecordBad R h i ≡ (leb (junior h i) (senior h i) || leb R (junior h i))
+test R h i = rw (not-ltb (senior h i) (junior h i), not-ltb (junior h i) R)
+
+-- the places of a turn: its test, where it begins, and the entry
+abbrev turn : tie.After-shared-slice-known2 Inv-loop μ-loop → tie.In-loop Inv-loop μ-loop
+turn c = c .before .before
+
+abbrev entered : tie.In-loop Inv-loop μ-loop → tie.Start Inv-loop μ-loop
+entered c = c .before .before
+
 loop-holds : tie.Need-loop-holds Inv-loop μ-loop
-loop-holds c = (search needs, any-none _)
+loop-holds c = passed-none
 
-mul-if1 : tie.Need-mul-if1 Inv-loop μ-loop
-mul-if1 c = search needs
+mul-at : tie.Need-mul-at Inv-loop μ-loop
+mul-at c = search needs
 
-add-if1 : tie.Need-add-if1 Inv-loop μ-loop
-add-if1 c = search needs
+add-junior : tie.Need-add-junior Inv-loop μ-loop
+add-junior c = search needs
+
+shared-slice-read-junior : tie.Need-shared-slice-read-junior Inv-loop μ-loop
+shared-slice-read-junior c = search needs
 
 shared-slice-read-if1 : tie.Need-shared-slice-read-if1 Inv-loop μ-loop
 shared-slice-read-if1 c = search needs
 
-mul-if1-2 : tie.Need-mul-if1-2 Inv-loop μ-loop
-mul-if1-2 c = search needs
-
-shared-slice-read-if1-2 : tie.Need-shared-slice-read-if1-2 Inv-loop μ-loop
-shared-slice-read-if1-2 c = search needs
-
 returns : tie.Need-returns Inv-loop μ-loop
 unfolding hierarchyBad
-returns c = sym (any-found (hierarchyRecordBad (c .before .before .before .before .before .args .roles) (c .before .before .before .before .before .args .h .now)) _ (c .before .before .before .before .loop .i) (c .before .before .before .loop-test .taken) (rw (le-ltb _ _ (c .if1 .taken))))
-
-mul-if2 : tie.Need-mul-if2 Inv-loop μ-loop
-mul-if2 c = search needs
-
-add-if2 : tie.Need-add-if2 Inv-loop μ-loop
-add-if2 c = search needs
-
-shared-slice-read-if2 : tie.Need-shared-slice-read-if2 Inv-loop μ-loop
-shared-slice-read-if2 c = search needs
-
-returns-2 : tie.Need-returns-2 Inv-loop μ-loop
-unfolding hierarchyBad
-returns-2 c = sym (any-found (hierarchyRecordBad (c .before .before .before .before .before .before .before .args .roles) (c .before .before .before .before .before .before .before .args .h .now)) _ (c .before .before .before .before .before .before .loop .i) (c .before .before .before .before .before .loop-test .taken) (rw (lt-ltb _ _ (c .before .before .if1 .left), le-ltb _ _ (c .if2 .taken))))
+returns c =
+    let t = turn (c .before) in
+    let a = entered t .args in
+    let l = t .before .loop in
+    some-bad (l .inv) (t .loop-test .taken) (test (a .roles) (a .h .now) (l .i) ∙ c .if1 .taken)
 
 add-i : tie.Need-add-i Inv-loop μ-loop
 add-i c = search needs
@@ -59,11 +61,15 @@ loop-less : tie.Need-loop-less Inv-loop μ-loop
 loop-less c = search needs
 
 loop-again : tie.Need-loop-again Inv-loop μ-loop
-loop-again c = (search needs, any-more (hierarchyRecordBad (c .before .before .before .before .before .before .before .args .roles) (c .before .before .before .before .before .before .before .args .h .now)) (c .before .before .before .before .before .before .loop .i) (c .before .before .before .before .before .before .loop .inv .1) (rw (lt-ltb _ _ (c .before .before .if1 .left), lt-ltb _ _ (c .if2 .left))))
+loop-again c =
+    let t = turn (c .before) in
+    let a = entered t .args in
+    let l = t .before .loop in
+    passed-more (l .inv) (t .loop-test .taken) (test (a .roles) (a .h .now) (l .i) ∙ c .if1 .left)
 
-returns-3 : tie.Need-returns-3 Inv-loop μ-loop
+returns-2 : tie.Need-returns-2 Inv-loop μ-loop
 unfolding hierarchyBad
-returns-3 c = let e : c .before .loop .i ≡ length (c .before .before .args .h .now) / 2 = omega arith in rw (← e, c .before .loop .inv .1)
+returns-2 c = none-bad (c .before .loop .inv) (c .loop-test .left)
 
 pub hierarchy-bad-spec : {M : Type 1} → statement M
 hierarchy-bad-spec =
@@ -72,17 +78,12 @@ hierarchy-bad-spec =
     Inv-loop
     μ-loop
     loop-holds
-    mul-if1
-    add-if1
+    mul-at
+    add-junior
+    shared-slice-read-junior
     shared-slice-read-if1
-    mul-if1-2
-    shared-slice-read-if1-2
     returns
-    mul-if2
-    add-if2
-    shared-slice-read-if2
-    returns-2
     add-i
     loop-less
     loop-again
-    returns-3)
+    returns-2)

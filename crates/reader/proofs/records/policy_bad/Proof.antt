@@ -1,125 +1,75 @@
-use borrow.Author.Tests.{lt-ltb, le-ltb}
+-- `policy_bad` meets its contract: its tests are the contract's, grouped otherwise and with `not below` as `at most`.
+use Prim.Native.Nat.{ℕ}
+use mathlib.Core.Bool.{_||_, _&&_, not, or-assoc}
+use mathlib.Core.List.{List}
+use mathlib.Core.Path.{_≡_}
+use lib.Dec.{ltb, leb, eqb}
+use Rattle.folds.proofs.Bools.{not-ltb}
+use Rattle.reader.specs.Fields.{policyRole, policyPermission, policyWeight, policyType, policyContext}
 use Rattle.reader.specs.Rules.{policyBad}
 use borrow.Author.Needs.{needs}
 use Rattle.reader.proofs.records.policy_bad.Statement.{statement}
 use Rattle.reader.proofs.records.policy_bad.Tie as tie
 
-mul-if1 : tie.Need-mul-if1
-mul-if1 c = search needs
-
-shared-slice-read-if1 : tie.Need-shared-slice-read-if1
-shared-slice-read-if1 c = search needs
-
-returns : tie.Need-returns
+-- the test as the code has it, of plain values
+test : (R P : ℕ) (a : List ℕ) (i : ℕ) →
+    (leb R (policyRole a i) || leb P (policyPermission a i) || ltb (policyWeight a i) 1 || ltb 5 (policyWeight a i)
+    || ltb 1 (policyType a i) || (ltb 15 (policyContext a i) && not (eqb (policyContext a i) 255))) ≡ policyBad R P a i
 unfolding policyBad
-returns c = rw (le-ltb _ _ (c .if1 .taken))
+test R P a i = simp (not-ltb, or-assoc)
 
-mul-if2 : tie.Need-mul-if2
-mul-if2 c = search needs
+-- the places of the variables' reads and of the result's
+abbrev at-context : tie.After-shared-slice-known2 → tie.Start
+at-context c = c .before .before
 
-add-if2 : tie.Need-add-if2
-add-if2 c = search needs
+abbrev at-result : tie.After-shared-slice-known5 → tie.Start
+at-result c = at-context (c .before .before .before)
 
-shared-slice-read-if2 : tie.Need-shared-slice-read-if2
-shared-slice-read-if2 c = search needs
+mul-at : tie.Need-mul-at
+mul-at c = search needs
 
-returns-2 : tie.Need-returns-2
-unfolding policyBad
-returns-2 c = rw (lt-ltb _ _ (c .before .before .if1 .left), le-ltb _ _ (c .if2 .taken))
+add-weight : tie.Need-add-weight
+add-weight c = search needs
 
-mul-if3 : tie.Need-mul-if3
-mul-if3 c = search needs
+shared-slice-read-weight : tie.Need-shared-slice-read-weight
+shared-slice-read-weight c = search needs
 
-add-if3 : tie.Need-add-if3
-add-if3 c = search needs
+add-context : tie.Need-add-context
+add-context c = search needs
 
-shared-slice-read-if3 : tie.Need-shared-slice-read-if3
-shared-slice-read-if3 c = search needs
-
-returns-3 : tie.Need-returns-3
-unfolding policyBad
-returns-3 c = rw (lt-ltb _ _ (c .before .before .before .before .if1 .left), lt-ltb _ _ (c .before .before .if2 .left), lt-ltb _ _ (c .if3 .taken))
-
-mul-if4 : tie.Need-mul-if4
-mul-if4 c = search needs
-
-add-if4 : tie.Need-add-if4
-add-if4 c = search needs
-
-shared-slice-read-if4 : tie.Need-shared-slice-read-if4
-shared-slice-read-if4 c = search needs
-
-returns-4 : tie.Need-returns-4
-unfolding policyBad
-returns-4 c = rw (lt-ltb _ _ (c .before .before .before .before .before .before .if1 .left), lt-ltb _ _ (c .before .before .before .before .if2 .left), le-ltb _ _ (c .before .before .if3 .left), lt-ltb _ _ (c .if4 .taken))
-
-mul-if5 : tie.Need-mul-if5
-mul-if5 c = search needs
-
-add-if5 : tie.Need-add-if5
-add-if5 c = search needs
-
-shared-slice-read-if5 : tie.Need-shared-slice-read-if5
-shared-slice-read-if5 c = search needs
-
-returns-5 : tie.Need-returns-5
-unfolding policyBad
-returns-5 c = rw (lt-ltb _ _ (c .before .before .before .before .before .before .before .before .if1 .left), lt-ltb _ _ (c .before .before .before .before .before .before .if2 .left), le-ltb _ _ (c .before .before .before .before .if3 .left), le-ltb _ _ (c .before .before .if4 .left), lt-ltb _ _ (c .if5 .taken))
-
-mul-if6 : tie.Need-mul-if6
-mul-if6 c = search needs
-
-add-if6 : tie.Need-add-if6
-add-if6 c = search needs
-
-shared-slice-read-if6 : tie.Need-shared-slice-read-if6
-shared-slice-read-if6 c = search needs
-
-mul-result : tie.Need-mul-result
-mul-result c = search needs
-
-add-result : tie.Need-add-result
-add-result c = search needs
+shared-slice-read-context : tie.Need-shared-slice-read-context
+shared-slice-read-context c = search needs
 
 shared-slice-read-result : tie.Need-shared-slice-read-result
 shared-slice-read-result c = search needs
 
-returns-6 : tie.Need-returns-6
-unfolding policyBad
-returns-6 c = rw (lt-ltb _ _ (c .before .before .before .before .before .before .before .before .before .before .before .if1 .left), lt-ltb _ _ (c .before .before .before .before .before .before .before .before .before .if2 .left), le-ltb _ _ (c .before .before .before .before .before .before .before .if3 .left), le-ltb _ _ (c .before .before .before .before .before .if4 .left), le-ltb _ _ (c .before .before .before .if5 .left), lt-ltb _ _ (c .before .if6 .taken))
+add-result : tie.Need-add-result
+add-result c = search needs
 
-returns-7 : tie.Need-returns-7
-unfolding policyBad
-returns-7 c = rw (lt-ltb _ _ (c .before .before .before .before .before .before .before .before .before .before .if1 .left), lt-ltb _ _ (c .before .before .before .before .before .before .before .before .if2 .left), le-ltb _ _ (c .before .before .before .before .before .before .if3 .left), le-ltb _ _ (c .before .before .before .before .if4 .left), le-ltb _ _ (c .before .before .if5 .left), le-ltb _ _ (c .if6 .left))
+shared-slice-read-result-2 : tie.Need-shared-slice-read-result-2
+shared-slice-read-result-2 c = search needs
+
+add-result-2 : tie.Need-add-result-2
+add-result-2 c = search needs
+
+shared-slice-read-result-3 : tie.Need-shared-slice-read-result-3
+shared-slice-read-result-3 c = search needs
+
+returns : tie.Need-returns
+returns c = let s = at-result c .args in test (s .roles) (s .permissions) (s .a .now) (s .i)
 
 pub policy-bad-spec : {M : Type 1} → statement M
 policy-bad-spec =
     tie.close
     (tie.spec
-    mul-if1
-    shared-slice-read-if1
-    returns
-    mul-if2
-    add-if2
-    shared-slice-read-if2
-    returns-2
-    mul-if3
-    add-if3
-    shared-slice-read-if3
-    returns-3
-    mul-if4
-    add-if4
-    shared-slice-read-if4
-    returns-4
-    mul-if5
-    add-if5
-    shared-slice-read-if5
-    returns-5
-    mul-if6
-    add-if6
-    shared-slice-read-if6
-    mul-result
-    add-result
+    mul-at
+    add-weight
+    shared-slice-read-weight
+    add-context
+    shared-slice-read-context
     shared-slice-read-result
-    returns-6
-    returns-7)
+    add-result
+    shared-slice-read-result-2
+    add-result-2
+    shared-slice-read-result-3
+    returns)
