@@ -4,7 +4,10 @@ use mathlib.Core.Bool.{Bool, true, false, _||_, cond}
 use mathlib.Core.Path.{_≡_, refl, sym, ap, _∙_}
 use mathlib.Core.Logic.{⊎-elim}
 use native.Mathlib.Numerals.{add-one}
-use native.Mathlib.Nat.{mul-one, one-mul, mul-add, mul-comm, mul-assoc, mul-left-comm, eq-of-mul-eq-mul-right, mod-eq-of-lt, div-add-mod', div-mul-cancel, dvd-mul-left, dvd-mul-left-of-dvd, dvd-mul-right-of-dvd, dvd-add-iff-right, dvd-of-mod-eq-zero, mod-eq-zero-of-dvd, not-suc-le-zero}
+use native.Mathlib.Nat.{mul-one, one-mul, mul-add, mul-comm, mul-assoc, mul-left-comm, eq-of-mul-eq-mul-right}
+use native.Mathlib.Nat.{mod-eq-of-lt, div-add-mod', div-mul-cancel, not-suc-le-zero}
+use native.Mathlib.Nat.{dvd-mul-left, dvd-mul-left-of-dvd, dvd-mul-right-of-dvd, dvd-add-iff-right}
+use native.Mathlib.Nat.{dvd-of-mod-eq-zero, mod-eq-zero-of-dvd}
 use native.Mathlib.Omega.{arith}
 use lib.Dec.{ltb, eqb}
 use borrow.Author.Tests.{ltb-true, eqb-true, eq-eqb}
@@ -77,10 +80,15 @@ true-divides r x h = dvd-of-mod-eq-zero (codeOf r) (eqb-true _ _ h)
 
 -- the code of another role as a factor makes no difference to role r
 other-code : (r k y : ℕ) → r < 8 → k < 8 → (k ≡ r → ⊥) → codeDivides r (y * codeOf k) ≡ codeDivides r y
-other-code r k y h l d =
-    same-test _ _
-    (λ e. divides-true r y (cancel (codeOf r) y (codeOf k) (inverse r k) (inverse-at r k h l d) (true-divides r (y * codeOf k) e)))
-    (λ e. divides-true r (y * codeOf k) (dvd-mul-right-of-dvd (codeOf r) (true-divides r y e) (codeOf k)))
+other-code r k y h l d = same-test _ _ without with
+  where
+    without : codeDivides r (y * codeOf k) ≡ true → codeDivides r y ≡ true
+    without e =
+        let whole = true-divides r (y * codeOf k) e in
+        divides-true r y (cancel (codeOf r) y (codeOf k) (inverse r k) (inverse-at r k h l d) whole)
+
+    with : codeDivides r y ≡ true → codeDivides r (y * codeOf k) ≡ true
+    with e = divides-true r (y * codeOf k) (dvd-mul-right-of-dvd (codeOf r) (true-divides r y e) (codeOf k))
 
 -- products over the roles that a test t picks
 module _ (t : ℕ → Bool) where
@@ -122,7 +130,8 @@ module _ (t : ℕ → Bool) where
     where
       by : (b : Bool) → codeDivides n (productBelow n factor * cond b (codeOf n) 1) ≡ b
       by true = divides-true n (productBelow n factor * codeOf n) (dvd-mul-left (codeOf n) (productBelow n factor))
-      by false = rw (mul-one, ← one-mul (productBelow n factor), others n 1 n h (omega arith), mod-eq-of-lt (code-big n h))
+      by false =
+          rw (mul-one, ← one-mul (productBelow n factor), others n 1 n h (omega arith), mod-eq-of-lt (code-big n h))
 
 -- of a product over a set of roles below R, the codes of exactly the roles in the set are divisors
 pub product-divides : (R s r : ℕ) → R ≤ 8 → r < R → codeDivides r (codeProduct R s) ≡ inSet s r
@@ -153,7 +162,8 @@ rest-times zero x h = sym (mul-one x)
 rest-times (suc n) x h =
     let t : ℕ → Bool = λ k. codeDivides k x in
     let e : x ≡ restOf n x * productBelow n (factor t) = rest-times n x (omega arith) in
-    let same : codeDivides n x ≡ codeDivides n (restOf n x) = ap (codeDivides n) e ∙ others t n (restOf n x) n h (omega arith) in
+    let other = others t n (restOf n x) n h (omega arith) in
+    let same : codeDivides n x ≡ codeDivides n (restOf n x) = ap (codeDivides n) e ∙ other in
     rw same (e ∙ moved n (restOf n x) (productBelow n (factor t)))
 
 -- the same with the set of the roles whose codes divide it
@@ -162,20 +172,27 @@ unfolding codeProduct
 rest-set R x s h e =
     rw (← product-same (factor (λ k. codeDivides k x)) (factor (inSet s)) R (λ r l. rw (e r l))) (rest-times R x h)
 
+-- no product of codes is 0
+codes-pos : (R s : ℕ) → R ≤ 8 → 0 < codeProduct R s
+unfolding codeProduct
+codes-pos R s h = product-pos (factor (inSet s)) R (λ r k. factor-pos (inSet s) r (omega arith))
+
 -- the parameter is a product of different codes of roles below R exactly when the rest is 1
 pub rest-one : (R x : ℕ) → R ≤ 8 → eqb (restOf R x) 1 ≡ parameterOk R x
-unfolding parameterOk codeProduct
+unfolding parameterOk
 rest-one R x h = same-test _ _ accepted one
   where
     accepted : eqb (restOf R x) 1 ≡ true → parameterOk R x ≡ true
     accepted e =
         let t : ℕ → Bool = λ r. codeDivides r x in
-        any-found (λ s. eqb x (codeProduct R s)) (2 ^ R) (setBelow R t) (set-lt t R)
-        (eq-eqb _ _ (rest-set R x (setBelow R t) h (λ r k. sym (in-set t R r k)) ∙ rw (eqb-true (restOf R x) 1 e) (one-mul _)))
+        let s : ℕ = setBelow R t in
+        let whole : x ≡ restOf R x * codeProduct R s = rest-set R x s h (λ r k. sym (in-set t R r k)) in
+        let same : x ≡ codeProduct R s = whole ∙ rw (eqb-true (restOf R x) 1 e) (one-mul _) in
+        any-found (λ s. eqb x (codeProduct R s)) (2 ^ R) s (set-lt t R) (eq-eqb _ _ same)
 
     one : parameterOk R x ≡ true → eqb (restOf R x) 1 ≡ true
     one ok =
         let (s, l, e, m) = roles-held R x h ok in
-        let pos : 0 < codeProduct R s = product-pos (factor (inSet s)) R (λ r k. factor-pos (inSet s) r (omega arith)) in
-        eq-eqb _ _
-        (eq-of-mul-eq-mul-right (codeProduct R s) pos (restOf R x) 1 (sym (rest-set R x s h m) ∙ e ∙ sym (one-mul _)))
+        let p : ℕ = codeProduct R s in
+        let same : restOf R x * p ≡ 1 * p = sym (rest-set R x s h m) ∙ e ∙ sym (one-mul p) in
+        eq-eqb _ _ (eq-of-mul-eq-mul-right p (codes-pos R s h) (restOf R x) 1 same)

@@ -1,3 +1,4 @@
+-- `code_divides` meets its contract: no code is 0.
 use Rattle.reader.proofs.Parameter.{code-pos}
 use borrow.Author.Needs.{needs}
 use Rattle.reader.proofs.codes.code_divides.Statement.{statement}

@@ -1,20 +1,74 @@
-use Prim.Native.Nat.{ℕ, _+_, _≤_, _<_, _-_}
-use mathlib.Core.Path.{_≡_, sym, _∙_}
-use mathlib.Core.Logic.{⊎-elim}
+-- `parameter_ok` meets its contract: past role r of the base's roles, `rest` is the parameter with the codes of the
+-- roles up to r divided out; the roles past the base's leave it as it is. A turn is argued of plain values.
+use Prim.Native.Nat.{ℕ, _+_, _-_, _/_, _<_, _≤_}
+use mathlib.Core.Bool.{true, false}
+use mathlib.Core.Path.{_≡_, sym, ap, _∙_}
+use mathlib.Core.Logic.{inl, inr}
+use native.Mathlib.Nat.{le-of-lt}
+use Rattle.reader.specs.Codes.{codeOf, codeDivides}
 use Rattle.reader.proofs.Parameter.{restOf, rest-none, rest-taken, rest-left, rest-one, code-pos}
 use native.Mathlib.Omega.{arith}
 use borrow.Author.Needs.{needs}
 use Rattle.reader.proofs.codes.parameter_ok.Statement.{statement}
 use Rattle.reader.proofs.codes.parameter_ok.Tie as tie
 
+-- the loop's invariant: role r is next
+record Turn (x roles rest r : ℕ) : Type 0 where
+  within : r ≤ 8
+  upto : r ≤ roles → rest ≡ restOf r x
+  past : roles ≤ r → rest ≡ restOf roles x
+
 abbrev Inv-loop : tie.InvT-loop
-Inv-loop x roles rest₀ r₀ rest r = (r ≤ 8) × (r ≤ roles → rest ≡ restOf r x) × (roles ≤ r → rest ≡ restOf roles x)
+Inv-loop x roles rest₀ r₀ rest r = Turn x roles rest r
 
 abbrev μ-loop : tie.MeasureT-loop
 μ-loop x roles rest₀ r₀ rest r = 8 - r
 
+first : (x roles : ℕ) → Turn x roles x 0
+first x roles =
+    record {
+      within = omega arith;
+      upto = λ h. sym (rest-none x);
+      past = λ h. let e : roles ≡ 0 = omega arith in rw e (sym (rest-none x));
+    }
+
+-- a turn, of plain values: `now` is what is left past it
+module _ {x roles rest r : ℕ} (turn : Turn x roles rest r) (there : r < 8) where
+  module _ (low : r < roles) where
+    same : rest ≡ restOf r x
+    same = turn .upto (le-of-lt low)
+
+    more : {now : ℕ} → now ≡ restOf (r + 1) x → Turn x roles now (r + 1)
+    more e =
+        record {
+          within = omega arith;
+          upto = λ h. e;
+          past = λ h. let last : roles ≡ r + 1 = omega arith in rw last e;
+        }
+
+    divided : {now : ℕ} → codeDivides r rest ≡ true → now ≡ rest / codeOf r → Turn x roles now (r + 1)
+    divided h e = more (e ∙ (ap (λ (y : ℕ). y / codeOf r) same ∙ sym (rest-taken r x (rw same at h))))
+
+    kept : {now : ℕ} → codeDivides r rest ≡ false → now ≡ rest → Turn x roles now (r + 1)
+    kept h e = more (e ∙ (same ∙ sym (rest-left r x (rw same at h))))
+
+  beyond : {now : ℕ} → roles ≤ r → now ≡ rest → Turn x roles now (r + 1)
+  beyond h e = record { within = omega arith; upto = λ k. absurd (omega arith); past = λ k. e ∙ turn .past h }
+
+-- where the arms meet
+joined : (c : tie.Joined1 Inv-loop μ-loop) → let start = c .before .before .before .args in
+    Turn (start .x) (start .roles) (c .if1 .rest) (c .before .before .loop .r + 1)
+joined c =
+    let there = c .before .loop-test .taken in
+    let turn = c .before .before .loop .inv in
+    elim (c .if1 .came) [
+      | inl d ↦ divided turn there (d .0 .taken) (sym (d .1 .ensures) ∙ d .2 .taken) (d .3)
+      | inr (inl d) ↦ kept turn there (d .0 .taken) (sym (d .1 .ensures) ∙ d .2 .left) (d .3)
+      | inr (inr d) ↦ beyond turn there (d .0 .left) (d .1)
+    ]
+
 loop-holds : tie.Need-loop-holds Inv-loop μ-loop
-loop-holds c = (search needs, λ l. sym (rest-none _), λ l. let e : c .args .roles ≡ 0 = omega arith in rw e (sym (rest-none _)))
+loop-holds c = first (c .args .x) (c .args .roles)
 
 code-divides-requires : tie.Need-code-divides-requires Inv-loop μ-loop
 code-divides-requires c κs = search needs
@@ -26,7 +80,7 @@ array-read-rest : tie.Need-array-read-rest Inv-loop μ-loop
 array-read-rest c = search needs
 
 div-rest : tie.Need-div-rest Inv-loop μ-loop
-div-rest c = let h : c .before .before .before .before .loop .r < 8 = (let m = c .before .before .before .loop-test .taken in omega arith) in code-pos _ h
+div-rest c = let turn = c .before .before .before in code-pos _ (turn .loop-test .taken)
 
 add-r : tie.Need-add-r Inv-loop μ-loop
 add-r c = search needs
@@ -35,20 +89,14 @@ loop-less : tie.Need-loop-less Inv-loop μ-loop
 loop-less c = search needs
 
 loop-again : tie.Need-loop-again Inv-loop μ-loop
-loop-again c =
-    let l = c .before .before .loop in
-    let x = c .before .before .before .args .x in
-    let same : (y : ℕ) → y ≡ restOf (l .r + 1) x → l .r < c .before .before .before .args .roles → (l .r + 1 ≤ 8) × (l .r + 1 ≤ c .before .before .before .args .roles → y ≡ restOf (l .r + 1) x) × (c .before .before .before .args .roles ≤ l .r + 1 → y ≡ restOf (c .before .before .before .args .roles) x) =
-    λ y e low. (search needs, λ m. e, λ m. let q : l .r + 1 ≡ c .before .before .before .args .roles = omega arith in rw (← q) e) in
-    ⊎-elim
-    (λ w. let low = w .0 .taken in let a = l .inv .1 (omega arith) in (same _ (w .3 ∙ rw a (sym (rest-taken (l .r) x (rw (← a, ← w .1 .ensures) (w .2 .taken))))) (omega arith)))
-    (λ v. ⊎-elim
-    (λ w. let low = w .0 .taken in let a = l .inv .1 (omega arith) in (same _ (w .3 ∙ (a ∙ sym (rest-left (l .r) x (rw (← a, ← w .1 .ensures) (w .2 .left))))) (omega arith)))
-    (λ w. let past = w .0 .left in (search needs, λ m. absurd (omega arith), λ m. w .1 ∙ l .inv .2 (omega arith))) v)
-    (c .if1 .came)
+loop-again c = joined c
 
 returns : tie.Need-returns Inv-loop μ-loop
-returns c = let l = c .before .loop in let m = c .loop-test .left in let h = c .before .before .pre in rw (l .inv .2 (omega arith)) (rest-one _ _ (c .before .before .pre))
+returns c =
+    let turn = c .before .loop .inv in
+    let few = c .before .before .pre in
+    let past = c .loop-test .left in
+    rw (turn .past (omega arith)) (rest-one _ _ few)
 
 pub parameter-ok-spec : {M : Type 1} → statement M
 parameter-ok-spec =
