@@ -4,3 +4,4 @@ pub mod Numbers
 pub mod Sets
 pub mod Lowest
 pub mod Lists
+pub mod Searches

@@ -1,4 +1,3 @@
 pub mod Frame
-mod Passed
 pub mod Parameter
 pub mod Accepted

@@ -5,13 +5,13 @@ use mathlib.Core.Path.{_≡_, sym, ap, _∙_}
 use lib.ListN.{length}
 use Rattle.reader.specs.Codes.{parameterOk}
 use Rattle.reader.specs.Rules.{userBad, usersBad}
-use Rattle.reader.proofs.Passed.{Passed, passed-none, passed-more, some-bad, none-bad}
+use Rattle.folds.proofs.Searches.{NoneYet, none-at-first, none-further, one-found, none-found}
 use borrow.Author.Needs.{needs}
 use Rattle.reader.proofs.codes.users_bad.Statement.{statement}
 use Rattle.reader.proofs.codes.users_bad.Tie as tie
 
 abbrev Inv-loop : tie.InvT-loop
-Inv-loop users roles i₀ i-end i = Passed (length users / 4) (userBad roles users) i
+Inv-loop users roles i₀ i-end i = NoneYet (length users / 4) (userBad roles users) i
 
 abbrev μ-loop : tie.MeasureT-loop
 μ-loop users roles i₀ i-end i = length users / 4 - i
@@ -31,7 +31,7 @@ test c =
     sym (ap not (c .parameter-ok .ensures ∙ ap (parameterOk roles) (c .before .get32 .ensures)))
 
 loop-holds : tie.Need-loop-holds Inv-loop μ-loop
-loop-holds c = passed-none
+loop-holds c = none-at-first
 
 mul-get32 : tie.Need-mul-get32 Inv-loop μ-loop
 mul-get32 c = search needs
@@ -46,7 +46,7 @@ returns : tie.Need-returns Inv-loop μ-loop
 unfolding usersBad
 returns c =
     let t = turn (c .before) in
-    some-bad (t .before .loop .inv) (t .loop-test .taken) (test (c .before) ∙ c .if1 .taken)
+    one-found (t .before .loop .inv) (t .loop-test .taken) (test (c .before) ∙ c .if1 .taken)
 
 add-i : tie.Need-add-i Inv-loop μ-loop
 add-i c = search needs
@@ -57,11 +57,11 @@ loop-less c = search needs
 loop-again : tie.Need-loop-again Inv-loop μ-loop
 loop-again c =
     let t = turn (c .before) in
-    passed-more (t .before .loop .inv) (t .loop-test .taken) (test (c .before) ∙ c .if1 .left)
+    none-further (t .before .loop .inv) (t .loop-test .taken) (test (c .before) ∙ c .if1 .left)
 
 returns-2 : tie.Need-returns-2 Inv-loop μ-loop
 unfolding usersBad
-returns-2 c = none-bad (c .before .loop .inv) (c .loop-test .left)
+returns-2 c = none-found (c .before .loop .inv) (c .loop-test .left)
 
 pub users-bad-spec : {M : Type 1} → statement M
 users-bad-spec =

@@ -3,19 +3,19 @@ use Prim.Native.Nat.{_-_, _/_}
 use mathlib.Core.Path.{sym, _∙_}
 use lib.ListN.{length}
 use Rattle.reader.specs.Rules.{exclusionBad, exclusionsBad}
-use Rattle.reader.proofs.Passed.{Passed, passed-none, passed-more, some-bad, none-bad}
+use Rattle.folds.proofs.Searches.{NoneYet, none-at-first, none-further, one-found, none-found}
 use borrow.Author.Needs.{needs}
 use Rattle.reader.proofs.records.exclusions_bad.Statement.{statement}
 use Rattle.reader.proofs.records.exclusions_bad.Tie as tie
 
 abbrev Inv-loop : tie.InvT-loop
-Inv-loop x roles permissions i₀ i-end i = Passed (length x / 3) (exclusionBad roles permissions x) i
+Inv-loop x roles permissions i₀ i-end i = NoneYet (length x / 3) (exclusionBad roles permissions x) i
 
 abbrev μ-loop : tie.MeasureT-loop
 μ-loop x roles permissions i₀ i-end i = length x / 3 - i
 
 loop-holds : tie.Need-loop-holds Inv-loop μ-loop
-loop-holds c = passed-none
+loop-holds c = none-at-first
 
 exclusion-bad-requires : tie.Need-exclusion-bad-requires Inv-loop μ-loop
 exclusion-bad-requires c κs = search needs
@@ -25,7 +25,7 @@ unfolding exclusionsBad
 returns c =
     let turn = c .before .before in
     let passed = turn .before .loop .inv in
-    some-bad passed (turn .loop-test .taken) (sym (c .before .exclusion-bad .ensures) ∙ c .if1 .taken)
+    one-found passed (turn .loop-test .taken) (sym (c .before .exclusion-bad .ensures) ∙ c .if1 .taken)
 
 add-i : tie.Need-add-i Inv-loop μ-loop
 add-i c = search needs
@@ -37,11 +37,11 @@ loop-again : tie.Need-loop-again Inv-loop μ-loop
 loop-again c =
     let turn = c .before .before in
     let passed = turn .before .loop .inv in
-    passed-more passed (turn .loop-test .taken) (sym (c .before .exclusion-bad .ensures) ∙ c .if1 .left)
+    none-further passed (turn .loop-test .taken) (sym (c .before .exclusion-bad .ensures) ∙ c .if1 .left)
 
 returns-2 : tie.Need-returns-2 Inv-loop μ-loop
 unfolding exclusionsBad
-returns-2 c = none-bad (c .before .loop .inv) (c .loop-test .left)
+returns-2 c = none-found (c .before .loop .inv) (c .loop-test .left)
 
 pub exclusions-bad-spec : {M : Type 1} → statement M
 exclusions-bad-spec =

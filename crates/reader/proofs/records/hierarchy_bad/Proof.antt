@@ -8,13 +8,13 @@ use lib.ListN.{length}
 use Rattle.folds.proofs.Bools.{not-ltb}
 use Rattle.reader.specs.Fields.{senior, junior}
 use Rattle.reader.specs.Rules.{hierarchyBad, hierarchyRecordBad}
-use Rattle.reader.proofs.Passed.{Passed, passed-none, passed-more, some-bad, none-bad}
+use Rattle.folds.proofs.Searches.{NoneYet, none-at-first, none-further, one-found, none-found}
 use borrow.Author.Needs.{needs}
 use Rattle.reader.proofs.records.hierarchy_bad.Statement.{statement}
 use Rattle.reader.proofs.records.hierarchy_bad.Tie as tie
 
 abbrev Inv-loop : tie.InvT-loop
-Inv-loop h roles i₀ i-end i = Passed (length h / 2) (hierarchyRecordBad roles h) i
+Inv-loop h roles i₀ i-end i = NoneYet (length h / 2) (hierarchyRecordBad roles h) i
 
 abbrev μ-loop : tie.MeasureT-loop
 μ-loop h roles i₀ i-end i = length h / 2 - i
@@ -32,7 +32,7 @@ abbrev entered : tie.In-loop Inv-loop μ-loop → tie.Start Inv-loop μ-loop
 entered c = c .before .before
 
 loop-holds : tie.Need-loop-holds Inv-loop μ-loop
-loop-holds c = passed-none
+loop-holds c = none-at-first
 
 mul-at : tie.Need-mul-at Inv-loop μ-loop
 mul-at c = search needs
@@ -52,7 +52,7 @@ returns c =
     let t = turn (c .before) in
     let a = entered t .args in
     let l = t .before .loop in
-    some-bad (l .inv) (t .loop-test .taken) (test (a .roles) (a .h .now) (l .i) ∙ c .if1 .taken)
+    one-found (l .inv) (t .loop-test .taken) (test (a .roles) (a .h .now) (l .i) ∙ c .if1 .taken)
 
 add-i : tie.Need-add-i Inv-loop μ-loop
 add-i c = search needs
@@ -65,11 +65,11 @@ loop-again c =
     let t = turn (c .before) in
     let a = entered t .args in
     let l = t .before .loop in
-    passed-more (l .inv) (t .loop-test .taken) (test (a .roles) (a .h .now) (l .i) ∙ c .if1 .left)
+    none-further (l .inv) (t .loop-test .taken) (test (a .roles) (a .h .now) (l .i) ∙ c .if1 .left)
 
 returns-2 : tie.Need-returns-2 Inv-loop μ-loop
 unfolding hierarchyBad
-returns-2 c = none-bad (c .before .loop .inv) (c .loop-test .left)
+returns-2 c = none-found (c .before .loop .inv) (c .loop-test .left)
 
 pub hierarchy-bad-spec : {M : Type 1} → statement M
 hierarchy-bad-spec =

@@ -3,19 +3,19 @@ use Prim.Native.Nat.{_-_, _/_}
 use mathlib.Core.Path.{sym, _∙_}
 use lib.ListN.{length}
 use Rattle.reader.specs.Rules.{policyBad, policiesBad}
-use Rattle.reader.proofs.Passed.{Passed, passed-none, passed-more, some-bad, none-bad}
+use Rattle.folds.proofs.Searches.{NoneYet, none-at-first, none-further, one-found, none-found}
 use borrow.Author.Needs.{needs}
 use Rattle.reader.proofs.records.policies_bad.Statement.{statement}
 use Rattle.reader.proofs.records.policies_bad.Tie as tie
 
 abbrev Inv-loop : tie.InvT-loop
-Inv-loop a roles permissions i₀ i-end i = Passed (length a / 8) (policyBad roles permissions a) i
+Inv-loop a roles permissions i₀ i-end i = NoneYet (length a / 8) (policyBad roles permissions a) i
 
 abbrev μ-loop : tie.MeasureT-loop
 μ-loop a roles permissions i₀ i-end i = length a / 8 - i
 
 loop-holds : tie.Need-loop-holds Inv-loop μ-loop
-loop-holds c = passed-none
+loop-holds c = none-at-first
 
 policy-bad-requires : tie.Need-policy-bad-requires Inv-loop μ-loop
 policy-bad-requires c κs = search needs
@@ -25,7 +25,7 @@ unfolding policiesBad
 returns c =
     let turn = c .before .before in
     let passed = turn .before .loop .inv in
-    some-bad passed (turn .loop-test .taken) (sym (c .before .policy-bad .ensures) ∙ c .if1 .taken)
+    one-found passed (turn .loop-test .taken) (sym (c .before .policy-bad .ensures) ∙ c .if1 .taken)
 
 add-i : tie.Need-add-i Inv-loop μ-loop
 add-i c = search needs
@@ -37,11 +37,11 @@ loop-again : tie.Need-loop-again Inv-loop μ-loop
 loop-again c =
     let turn = c .before .before in
     let passed = turn .before .loop .inv in
-    passed-more passed (turn .loop-test .taken) (sym (c .before .policy-bad .ensures) ∙ c .if1 .left)
+    none-further passed (turn .loop-test .taken) (sym (c .before .policy-bad .ensures) ∙ c .if1 .left)
 
 returns-2 : tie.Need-returns-2 Inv-loop μ-loop
 unfolding policiesBad
-returns-2 c = none-bad (c .before .loop .inv) (c .loop-test .left)
+returns-2 c = none-found (c .before .loop .inv) (c .loop-test .left)
 
 pub policies-bad-spec : {M : Type 1} → statement M
 policies-bad-spec =
