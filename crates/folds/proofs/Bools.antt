@@ -62,6 +62,12 @@ same-test true b h k = sym (h refl)
 same-test false true h k = k refl
 same-test false false h k = refl
 
+-- and so are two that fail together
+pub same-failure : (a b : Bool) → (a ≡ false → b ≡ false) → (b ≡ false → a ≡ false) → a ≡ b
+same-failure true true h k = refl
+same-failure true false h k = k refl
+same-failure false b h k = sym (h refl)
+
 -- not below is at most the other way round
 pub not-ltb : (a b : ℕ) → not (ltb a b) ≡ leb b a
 not-ltb a b =

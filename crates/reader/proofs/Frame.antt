@@ -1,5 +1,5 @@
 -- What the trailer says of the tables: their lengths and where they lie.
-use Prim.Native.Nat.{ℕ, suc, _+_, _<_, _≤_}
+use Prim.Native.Nat.{ℕ, suc, _+_, _*_, _<_, _≤_}
 use mathlib.Core.Bool.{Bool, true, false, cond}
 use mathlib.Core.Path.{_≡_, refl}
 use mathlib.Core.List.{List}
@@ -12,7 +12,9 @@ use Rattle.folds.specs.Below.{allBelow, anyBelow}
 use Rattle.folds.proofs.Bools.{or-left, or-right}
 use Rattle.folds.proofs.Tests.{all-at, any-at}
 use Rattle.folds.proofs.Numbers.{sum-step, sum-le-sum}
-use Rattle.reader.specs.Tables.{width, limit, trailer, tableOffset, tableCount, tableSize, tableStart, tableBad, tablesBad, rolesBad, roleCount, reservedBad, trailerBad, lengthBad, lettersBad, frameRefusal, partOf, tableOf, recordCount, permissionCount}
+use Rattle.reader.specs.Tables.{width, limit, trailer, tableOffset, tableCount, tableSize, tableStart, roleCount}
+use Rattle.reader.specs.Tables.{tableBad, tablesBad, rolesBad, reservedBad, trailerBad, lengthBad, lettersBad}
+use Rattle.reader.specs.Tables.{frameRefusal, partOf, tableOf, recordCount, permissionCount}
 
 pub width-le : (t : ℕ) → t < 7 → width t ≤ 16
 unfolding allBelow
@@ -25,6 +27,10 @@ width-pos t h = ltb-true _ _ (all-at (λ k. ltb 0 (width k)) 7 refl t h)
 pub limit-le : (t : ℕ) → t < 7 → limit t ≤ 64
 unfolding allBelow
 limit-le t h = leb-true _ _ (all-at (λ k. leb (limit k) 64) 7 refl t h)
+
+-- records of table t within its limit have at most 1,024 bytes
+pub records-size : (t n : ℕ) → t < 7 → n ≤ limit t → n * width t ≤ 1024
+records-size t n there few = mul-le-mul {n₂ = 64} {m₂ = 16} (le-trans few (limit-le t there)) (width-le t there)
 
 -- a base that passes refusal 1 has a trailer
 pub long-enough : (b : List ℕ) → lengthBad b ≡ false → 36 ≤ length b
@@ -80,9 +86,8 @@ module _ (b : List ℕ) (ok : frameRefusal b ≡ 0) (t : ℕ) (there : t < 7) wh
   pub count-limit : tableCount b t ≤ limit t
   count-limit = ltb-false _ _ (or-left _ _ table-fine)
 
-  -- a table has at most 1,024 bytes
   pub size-le : tableSize b t ≤ 1024
-  size-le = mul-le-mul {n₂ = 64} {m₂ = 16} (le-trans count-limit (limit-le t there)) (width-le t there)
+  size-le = records-size t (tableCount b t) there count-limit
 
   pub offset-start : tableOffset b t ≡ tableStart b t
   offset-start = eqb-true _ _ (not-false _ (or-right (ltb (limit t) (tableCount b t)) _ table-fine))

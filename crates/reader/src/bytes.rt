@@ -11,24 +11,12 @@ pub fn wide(x: u8) -> usize
     x as usize
 }
 
-fn wide16(x: u8) -> u16
-    ensures { λ r. ⌜ (r ≡ x) × (r < 256) ⌝ }
-{
-    x as u16
-}
-
-fn wide32(x: u8) -> u32
-    ensures { λ r. ⌜ (r ≡ x) × (r < 256) ⌝ }
-{
-    x as u32
-}
-
 // Inner: the number in 2 bytes.
 pub fn get16(b: &[u8], i: usize) -> u16
     requires { ⌜ i + 2 ≤ length (now b) ⌝ }
     ensures { λ r. ⌜ r ≡ word16 (now (b .entry)) i ⌝ }
 {
-    wide16(b[i]) + 256 * wide16(b[i + 1])
+    b[i] as u16 + 256 * (b[i + 1] as u16)
 }
 
 // Inner: the number in 4 bytes.
@@ -36,5 +24,5 @@ pub fn get32(b: &[u8], i: usize) -> u32
     requires { ⌜ i + 4 ≤ length (now b) ⌝ }
     ensures { λ r. ⌜ r ≡ word32 (now (b .entry)) i ⌝ }
 {
-    wide32(b[i]) + 256 * wide32(b[i + 1]) + 65536 * wide32(b[i + 2]) + 16777216 * wide32(b[i + 3])
+    get16(b, i) as u32 + 65536 * (get16(b, i + 2) as u32)
 }

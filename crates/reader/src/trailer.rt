@@ -4,7 +4,8 @@ use crate::bytes;
 ghost use mathlib.Core.Path.{_≡_};
 ghost use Prim.Native.Nat.{_+_, _≤_, _<_};
 ghost use lib.ListN.{length};
-ghost use Rattle.reader.specs.Tables.{width, limit, tableOffset, tableCount, roleCount, lengthBad, lettersBad, reservedBad, tablesBad, trailerBad, frameRefusal, tableOf, permissionCount};
+ghost use Rattle.reader.specs.Tables.{width, limit, tableOffset, tableCount, roleCount, lengthBad, lettersBad};
+ghost use Rattle.reader.specs.Tables.{reservedBad, tablesBad, trailerBad, frameRefusal, tableOf, permissionCount};
 
 // Bytes a record, and records at most, by table.
 const WIDTHS: [usize; 7] = [2, 4, 2, 16, 16, 8, 3];
@@ -25,24 +26,18 @@ fn limit_of(t: usize) -> usize
     LIMITS[t]
 }
 
-fn wide(x: u16) -> usize
-    ensures { λ r. ⌜ (r ≡ x) × (r < 65536) ⌝ }
-{
-    x as usize
-}
-
 fn table_offset(base: &[u8], t: usize) -> usize
     requires { ⌜ (36 ≤ length (now base)) × (t < 7) ⌝ }
     ensures { λ r. ⌜ (r ≡ tableOffset (now (base .entry)) t) × (r < 65536) ⌝ }
 {
-    wide(bytes::get16(base, base.len() - 36 + 4 * t))
+    bytes::get16(base, base.len() - 36 + 4 * t) as usize
 }
 
 fn table_count(base: &[u8], t: usize) -> usize
     requires { ⌜ (36 ≤ length (now base)) × (t < 7) ⌝ }
     ensures { λ r. ⌜ (r ≡ tableCount (now (base .entry)) t) × (r < 65536) ⌝ }
 {
-    wide(bytes::get16(base, base.len() - 36 + 4 * t + 2))
+    bytes::get16(base, base.len() - 36 + 4 * t + 2) as usize
 }
 
 // Inner: R.
@@ -68,27 +63,15 @@ fn letters_bad(base: &[u8]) -> bool
     requires { ⌜ 36 ≤ length (now base) ⌝ }
     ensures { λ r. ⌜ r ≡ lettersBad (now (base .entry)) ⌝ }
 {
-    let letters = b"LCAP";
-    let at = base.len() - 36 + 32;
-    for i in 0..4usize {
-        if base[at + i] != letters[i] {
-            return true;
-        }
-    }
-    false
+    bytes::get32(base, base.len() - 4) != bytes::get32(b"LCAP", 0)
 }
 
+// The three zero bytes after R: with R as the lowest byte, the number in the four is below 256.
 fn reserved_bad(base: &[u8]) -> bool
     requires { ⌜ 36 ≤ length (now base) ⌝ }
     ensures { λ r. ⌜ r ≡ reservedBad (now (base .entry)) ⌝ }
 {
-    let at = base.len() - 36 + 29;
-    for i in 0..3usize {
-        if base[at + i] != 0 {
-            return true;
-        }
-    }
-    false
+    255 < bytes::get32(base, base.len() - 8)
 }
 
 fn tables_bad(base: &[u8]) -> bool

@@ -1,3 +1,4 @@
+-- The part of a base that passed 1 to 3; where the arms meet, one of the two tests failed, and the part is empty.
 use mathlib.Core.Path.{sym, _∙_}
 use mathlib.Core.Logic.{⊎-elim}
 use mathlib.Core.Bool.{and-false}
@@ -27,7 +28,11 @@ part-result-end c = search needs
 
 returns-2 : tie.Need-returns-2
 unfolding tableOf
-returns-2 c = ⊎-elim (λ w. rw (← w .1 .ensures, ne-eqb _ _ (w .2 .left))) (λ w. rw (le-ltb _ _ (w .left), and-false)) (c .before .if1 .came)
+returns-2 c =
+    ⊎-elim
+    (λ w. rw (← w .1 .ensures, ne-eqb _ _ (w .2 .left)))
+    (λ w. rw (le-ltb _ _ (w .left), and-false))
+    (c .before .if1 .came)
 
 pub table-spec : {M : Type 1} → statement M
 table-spec =

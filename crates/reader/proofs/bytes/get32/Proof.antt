@@ -1,23 +1,32 @@
-use Rattle.reader.specs.Bytes.{word32}
+-- The number in 4 bytes is that in the first 2 and 65,536 times that in the last 2.
+use Prim.Native.Nat.{ℕ, _+_, _*_}
+use mathlib.Core.List.{List}
+use mathlib.Core.Path.{_≡_}
+use Rattle.reader.specs.Bytes.{word16, word32}
 use native.Mathlib.Omega.{arith}
 use borrow.Author.Needs.{needs}
 use Rattle.reader.proofs.bytes.get32.Statement.{statement}
 use Rattle.reader.proofs.bytes.get32.Tie as tie
 
-shared-slice-read-wide32 : tie.Need-shared-slice-read-wide32
-shared-slice-read-wide32 c = search needs
+halves : (b : List ℕ) (i : ℕ) {low high : ℕ} → low ≡ word16 b i → high ≡ word16 b (i + 2) →
+    low + 65536 * high ≡ word32 b i
+unfolding word16 word32
+halves b i l h = let e : i + 2 + 1 ≡ i + 3 = omega arith in rw (l, h, e) (omega arith)
 
-wide32-requires : tie.Need-wide32-requires
-wide32-requires c κs = search needs
+get16-requires : tie.Need-get16-requires
+get16-requires c κs = search needs
 
-add-wide32 : tie.Need-add-wide32
-add-wide32 c = search needs
+cast-result : tie.Need-cast-result
+cast-result c = search needs
 
-shared-slice-read-wide32-2 : tie.Need-shared-slice-read-wide32-2
-shared-slice-read-wide32-2 c = search needs
+add-get16 : tie.Need-add-get16
+add-get16 c = search needs
 
-wide32-requires-2 : tie.Need-wide32-requires-2
-wide32-requires-2 c κs = search needs
+get16-requires-2 : tie.Need-get16-requires-2
+get16-requires-2 c κs = search needs
+
+cast-result-2 : tie.Need-cast-result-2
+cast-result-2 c = search needs
 
 mul-result : tie.Need-mul-result
 mul-result c = search needs
@@ -25,59 +34,18 @@ mul-result c = search needs
 add-result : tie.Need-add-result
 add-result c = search needs
 
-add-wide32-2 : tie.Need-add-wide32-2
-add-wide32-2 c = search needs
-
-shared-slice-read-wide32-3 : tie.Need-shared-slice-read-wide32-3
-shared-slice-read-wide32-3 c = search needs
-
-wide32-requires-3 : tie.Need-wide32-requires-3
-wide32-requires-3 c κs = search needs
-
-mul-result-2 : tie.Need-mul-result-2
-mul-result-2 c = search needs
-
-add-result-2 : tie.Need-add-result-2
-add-result-2 c = search needs
-
-add-wide32-3 : tie.Need-add-wide32-3
-add-wide32-3 c = search needs
-
-shared-slice-read-wide32-4 : tie.Need-shared-slice-read-wide32-4
-shared-slice-read-wide32-4 c = search needs
-
-wide32-requires-4 : tie.Need-wide32-requires-4
-wide32-requires-4 c κs = search needs
-
-mul-result-3 : tie.Need-mul-result-3
-mul-result-3 c = search needs
-
-add-result-3 : tie.Need-add-result-3
-add-result-3 c = search needs
-
 returns : tie.Need-returns
-unfolding word32
-returns c = omega arith
+returns c = halves _ _ (c .before .get16 .ensures) (c .get162 .ensures)
 
 pub get32-spec : {M : Type 1} → statement M
 get32-spec =
     tie.close
     (tie.spec
-    shared-slice-read-wide32
-    wide32-requires
-    add-wide32
-    shared-slice-read-wide32-2
-    wide32-requires-2
+    get16-requires
+    cast-result
+    add-get16
+    get16-requires-2
+    cast-result-2
     mul-result
     add-result
-    add-wide32-2
-    shared-slice-read-wide32-3
-    wide32-requires-3
-    mul-result-2
-    add-result-2
-    add-wide32-3
-    shared-slice-read-wide32-4
-    wide32-requires-4
-    mul-result-3
-    add-result-3
     returns)

@@ -1,3 +1,4 @@
+-- Each of the two tests on the length is one half of `lengthBad`.
 use borrow.Author.Tests.{lt-ltb, le-ltb}
 use Rattle.reader.specs.Tables.{lengthBad}
 use Rattle.reader.proofs.trailer.length_bad.Statement.{statement}

@@ -1,3 +1,4 @@
+-- The constant table is the list that `limit` reads.
 use mathlib.Core.Path.{refl}
 use Rattle.reader.proofs.Frame.{limit-le}
 use borrow.Author.Needs.{needs}

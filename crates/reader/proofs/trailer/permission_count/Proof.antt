@@ -1,5 +1,5 @@
-use lib.Dec.{lit<}
-use Rattle.reader.proofs.Frame.{count-limit, record-count}
+-- The part lent is the table of permissions; it has at most 16 records, so their number is a byte.
+use Rattle.reader.proofs.Frame.{permissions-le}
 use native.Mathlib.Omega.{arith}
 use borrow.Author.Needs.{needs}
 use Rattle.reader.proofs.trailer.permission_count.Statement.{statement}
@@ -9,7 +9,7 @@ part-requires : tie.Need-part-requires
 part-requires c κs = search needs
 
 cast-result : tie.Need-cast-result
-cast-result c = let h = count-limit _ (c .before .before .pre) 2 (lit< tt) in rw (c .part .ensures, record-count _ (c .before .before .pre) 2 (lit< tt)) (omega arith)
+cast-result c = let few = permissions-le _ (c .before .before .pre) in rw (c .part .ensures) (omega arith)
 
 returns : tie.Need-returns
 returns c = rw (c .part .ensures)

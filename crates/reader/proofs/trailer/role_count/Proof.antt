@@ -1,3 +1,4 @@
+-- The byte read is the one that `roleCount` names.
 use mathlib.Core.Path.{refl}
 use Rattle.reader.specs.Tables.{roleCount}
 use borrow.Author.Needs.{needs}

@@ -1,4 +1,4 @@
-use mathlib.Core.Path.{_∙_}
+-- The two bytes read are those that `tableCount` names; a number of two bytes is below 65,536.
 use Rattle.reader.specs.Tables.{tableCount}
 use borrow.Author.Needs.{needs}
 use Rattle.reader.proofs.trailer.table_count.Statement.{statement}
@@ -19,14 +19,14 @@ add-get16-2 c = search needs
 get16-requires : tie.Need-get16-requires
 get16-requires c κs = search needs
 
-wide-requires : tie.Need-wide-requires
-wide-requires c κs = search needs
+cast-result : tie.Need-cast-result
+cast-result c = search needs
 
 returns : tie.Need-returns
 unfolding tableCount
-returns c = (c .wide .ensures .0 ∙ c .before .get16 .ensures, c .wide .ensures .1)
+returns c = (c .get16 .ensures, search needs)
 
 pub table-count-spec : {M : Type 1} → statement M
 table-count-spec =
     tie.close
-    (tie.spec sub-get16 mul-get16 add-get16 add-get16-2 get16-requires wide-requires returns)
+    (tie.spec sub-get16 mul-get16 add-get16 add-get16-2 get16-requires cast-result returns)

@@ -1,4 +1,4 @@
-use mathlib.Core.Path.{_∙_}
+-- The two bytes read are those that `tableOffset` names; a number of two bytes is below 65,536.
 use Rattle.reader.specs.Tables.{tableOffset}
 use borrow.Author.Needs.{needs}
 use Rattle.reader.proofs.trailer.table_offset.Statement.{statement}
@@ -16,13 +16,13 @@ add-get16 c = search needs
 get16-requires : tie.Need-get16-requires
 get16-requires c κs = search needs
 
-wide-requires : tie.Need-wide-requires
-wide-requires c κs = search needs
+cast-result : tie.Need-cast-result
+cast-result c = search needs
 
 returns : tie.Need-returns
 unfolding tableOffset
-returns c = (c .wide .ensures .0 ∙ c .before .get16 .ensures, c .wide .ensures .1)
+returns c = (c .get16 .ensures, search needs)
 
 pub table-offset-spec : {M : Type 1} → statement M
 table-offset-spec =
-    tie.close (tie.spec sub-get16 mul-get16 add-get16 get16-requires wide-requires returns)
+    tie.close (tie.spec sub-get16 mul-get16 add-get16 get16-requires cast-result returns)

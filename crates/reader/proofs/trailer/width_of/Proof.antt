@@ -1,3 +1,4 @@
+-- The constant table is the list that `width` reads.
 use mathlib.Core.Path.{refl}
 use Rattle.reader.proofs.Frame.{width-le}
 use borrow.Author.Needs.{needs}
