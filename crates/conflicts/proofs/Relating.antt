@@ -4,7 +4,7 @@ use mathlib.Core.Bool.{Bool, true, false, _&&_, _||_, cond, and-comm, or-true, o
 use mathlib.Core.Path.{_≡_, refl, sym, _∙_}
 use mathlib.Core.Logic.{_⊎_, inl, inr, ⊎-elim}
 use mathlib.Core.List.{List}
-use native.Mathlib.Nat.{le-refl}
+use native.Mathlib.Nat.{le-refl, lt-of-not-le}
 use native.Mathlib.Omega.{arith}
 use borrow.Author.Tests.{ltb-true, ltb-false, leb-true, leb-false, eqb-true, not-false, lt-ltb, le-ltb, eq-eqb}
 use lib.Dec.{ltb, eqb}
@@ -19,7 +19,8 @@ use Rattle.reader.proofs.Accepted.{ContextConditionFine, context-fine}
 use Rattle.weights.specs.declared.Context.{Context}
 use Rattle.weights.specs.Operators.{meets}
 use Rattle.weights.specs.Contexts.{valueOf, contextConditionHolds, contextClauseHolds, clauseOfHolds, contextHolds}
-use Rattle.conflicts.specs.Related.{bothHold, related, clauseOf, fitsAt, fits, bothFit, valueFits, someValueFits, meetable, compatible, joins, meetsSome}
+use Rattle.conflicts.specs.Related.{bothHold, related, clauseOf, fitsAt, fits, bothFit, valueFits}
+use Rattle.conflicts.specs.Related.{someValueFits, meetable, compatible, joins, meetsSome}
 
 -- what is true of 0, 1 and 2 is true of each number below 3
 below-three : (P : ℕ → Type 0) → P 0 → P 1 → P 2 → (p : ℕ) → p < 3 → P p
@@ -95,19 +96,31 @@ module _ (c : List ℕ) where
       to : (x y : ℕ) → related c x y ≡ true → related c y x ≡ true
       to x y h = let (at, r, b) = related-some x y h in related-found y x at r (and-comm (contextHolds at c y) _ ∙ b)
 
-  module _ (fine : contextsBad c ≡ false) (whole : length c ≡ 16 * recordCount contexts c) where
+  module _ (whole : length c ≡ 16 * recordCount contexts c) where
     -- a clause behind the table has no conditions
-    no-conditions : (i : ℕ) → recordCount contexts c ≤ i → contextLength c i ≡ 0
+    pub no-conditions : (i : ℕ) → recordCount contexts c ≤ i → contextLength c i ≡ 0
     no-conditions i l = List·getD-eq-default c 0 (omega arith)
 
+    -- so one with conditions lies in the table
+    with-conditions : (i : ℕ) → 0 < contextLength c i → i < recordCount contexts c
+    with-conditions i h = lt-of-not-le (λ l. absurd (omega (arith, no-conditions i l)))
+
+    -- with n of them, at most 3, condition k is one of the table's
+    pub condition-inside : (i : ℕ) {k n : ℕ} → (n ≡ contextLength c i) × (n ≤ 3) → k < n →
+        (16 * i + 16 ≤ length c) × (k < 3)
+    condition-inside i {k} {n} (is, few) l =
+        let inside = with-conditions i (omega (arith, is)) in
+        (omega arith, omega arith)
+
+  module _ (fine : contextsBad c ≡ false) (whole : length c ≡ 16 * recordCount contexts c) where
     -- the conditions of all clauses keep the rules
-    condition-fine : (i k : ℕ) → k < contextLength c i → ContextConditionFine (contextParameter c i k) (contextOperator c i k) (contextValue c i k)
-    condition-fine i k l =
-        ⊎-elim (λ t. context-fine 0 0 c i fine (ltb-true _ _ t) .condition k l)
-        (λ t. absurd (omega (arith, no-conditions i (ltb-false _ _ t)))) (met-or-not (ltb i (recordCount contexts c)))
+    condition-fine : (i k : ℕ) → k < contextLength c i →
+        ContextConditionFine (contextParameter c i k) (contextOperator c i k) (contextValue c i k)
+    condition-fine i k l = context-fine 0 0 c i fine (with-conditions whole i (omega arith)) .condition k l
 
     -- where the context's values fit a clause, it holds
-    fits-clause : (at : Context) (i : ℕ) → ((p : ℕ) → p < 3 → fits c i p (valueOf at p) ≡ true) → contextClauseHolds at c i ≡ true
+    fits-clause : (at : Context) (i : ℕ) → ((p : ℕ) → p < 3 → fits c i p (valueOf at p) ≡ true) →
+        contextClauseHolds at c i ≡ true
     unfolding contextClauseHolds contextConditionHolds fits
     fits-clause at i h =
         all-each (contextConditionHolds at c i) (contextLength c i)
@@ -122,16 +135,21 @@ module _ (c : List ℕ) where
     number-holds at n =
         let count = recordCount contexts c in
         let e = any-same (holdsBy c at n) (clauseOfHolds at c n) count (λ i l. rw (lt-ltb _ _ l)) in
-        rw (any-next, e, le-ltb _ _ (le-refl count), no-conditions count (le-refl _))
+        rw (any-next, e, le-ltb _ _ (le-refl count), no-conditions whole count (le-refl _))
         (by (eqb n 255) (anyBelow count (clauseOfHolds at c n)))
       where
         by : (b a : Bool) → cond b true a ≡ (a || (b && true))
         by true a = sym (or-true a)
         by false a = sym (or-false a)
 
+    number-held : (at : Context) (n i : ℕ) → i < recordCount contexts c + 1 →
+        clauseOf c n i ≡ true → contextClauseHolds at c i ≡ true → contextHolds at c n ≡ true
+    number-held at n i l h k = number-holds at n ∙ any-found (holdsBy c at n) _ i l (and-both h k)
+
     module _ (i j p : ℕ) where
       -- where w + 1 fits both clauses, and w not clause s of them, w + 1 is a candidate of s
-      value-found : (s w : ℕ) → bothFit c i j p (suc w) ≡ true → fits c s p (suc w) ≡ true → fits c s p w ≡ false → someValueFits c s i j p ≡ true
+      value-found : (s w : ℕ) → bothFit c i j p (suc w) ≡ true → fits c s p (suc w) ≡ true → fits c s p w ≡ false →
+          someValueFits c s i j p ≡ true
       unfolding fits someValueFits
       value-found s w b h f =
           let (k, l, e) = all-fails (fitsAt c s p w) _ f in
@@ -139,7 +157,8 @@ module _ (c : List ℕ) where
           any-found (valueFits c s i j p) _ k l
           (rw q
           (⊎-elim (λ v. rw (← v, b)) (λ v. rw (← v, b) (or-true (bothFit c i j p (contextValue c s k))))
-          (step _ _ _ (condition-fine s k l .operator-le) (rw q at (all-at (fitsAt c s p (suc w)) _ h k l)) (rw q at e))))
+          (step _ _ _ (condition-fine s k l .operator-le) (rw q at (all-at (fitsAt c s p (suc w)) _ h k l))
+          (rw q at e))))
 
       -- where a value fits both clauses, a candidate at or below it does
       fit-meetable : (v : ℕ) → bothFit c i j p v ≡ true → meetable c i j p ≡ true
@@ -150,7 +169,8 @@ module _ (c : List ℕ) where
           let l : w < rangeOf p = omega arith in
           ⊎-elim (fit-meetable w)
           (λ k.
-          ⊎-elim (λ e. simp (value-found i w h (f .first) e, or-true)) (λ e. simp (value-found j w h (f .second) e, or-true))
+          ⊎-elim (λ e. simp (value-found i w h (f .first) e, or-true))
+          (λ e. simp (value-found j w h (f .second) e, or-true))
           (and-either (fits c i p w) _ (rw (lt-ltb _ _ l) at k)))
           (met-or-not (bothFit c i j p w))
 
@@ -165,10 +185,13 @@ module _ (c : List ℕ) where
           found v h = any-found _ _ v (fits-both i j p v h .range) h
 
           value : (s : ℕ) → someValueFits c s i j p ≡ true → anyBelow (rangeOf p) (bothFit c i j p) ≡ true
-          value s h = let (k, l, e) = any-some (valueFits c s i j p) _ h in ⊎-elim (found _) (found _) (or-either _ _ (and-right (eqb (contextParameter c s k) p) _ e))
+          value s h =
+              let (k, l, e) = any-some (valueFits c s i j p) _ h in
+              ⊎-elim (found _) (found _) (or-either _ _ (and-right (eqb (contextParameter c s k) p) _ e))
 
     -- of compatible clauses a context can be named in which both hold
-    compatible-some : (i j : ℕ) → compatible c i j ≡ true → (at : Context) × InRange at × (contextClauseHolds at c i ≡ true) × (contextClauseHolds at c j ≡ true)
+    compatible-some : (i j : ℕ) → compatible c i j ≡ true →
+        (at : Context) × InRange at × (contextClauseHolds at c i ≡ true) × (contextClauseHolds at c j ≡ true)
     unfolding compatible valueOf
     compatible-some i j h =
         let (m, fm) = value 0 (omega arith) in
@@ -179,10 +202,13 @@ module _ (c : List ℕ) where
         (at, λ p l. f p l .range, fits-clause at i (λ p l. f p l .first), fits-clause at j (λ p l. f p l .second))
       where
         value : (p : ℕ) → p < 3 → (v : ℕ) × FitsBoth c i j p v
-        value p l = let (v, k, e) = any-some _ _ (sym (meetable-any i j p) ∙ all-at (meetable c i j) 3 h p l) in (v, fits-both i j p v e)
+        value p l =
+            let (v, k, e) = any-some _ _ (sym (meetable-any i j p) ∙ all-at (meetable c i j) 3 h p l) in
+            (v, fits-both i j p v e)
 
     -- clauses that both hold in a context are compatible
-    compatible-found : (i j : ℕ) (at : Context) → InRange at → contextClauseHolds at c i ≡ true → contextClauseHolds at c j ≡ true → compatible c i j ≡ true
+    compatible-found : (i j : ℕ) (at : Context) → InRange at →
+        contextClauseHolds at c i ≡ true → contextClauseHolds at c j ≡ true → compatible c i j ≡ true
     unfolding compatible bothFit
     compatible-found i j at r h k =
         all-each (meetable c i j) 3
@@ -199,7 +225,8 @@ module _ (c : List ℕ) where
         to h =
             let (at, r, b) = related-some x y h in
             let (i, li, hi) = any-some (holdsBy c at x) _ (sym (number-holds at x) ∙ and-left _ _ b) in
-            let (j, lj, hj) = any-some (holdsBy c at y) _ (sym (number-holds at y) ∙ and-right (contextHolds at c x) _ b) in
+            let holds-y = sym (number-holds at y) ∙ and-right (contextHolds at c x) _ b in
+            let (j, lj, hj) = any-some (holdsBy c at y) _ holds-y in
             let e = compatible-found i j at r (and-right (clauseOf c x i) _ hi) (and-right (clauseOf c y j) _ hj) in
             any-found (meetsSome c x y) _ i li
             (and-both (and-left (clauseOf c x i) _ hi)
@@ -211,5 +238,5 @@ module _ (c : List ℕ) where
             let (j, lj, hj) = any-some (joins c y i) _ (and-right (clauseOf c x i) _ hi) in
             let (at, r, ci, cj) = compatible-some i j (and-right (clauseOf c y j) _ hj) in
             related-found x y at r
-            (and-both (number-holds at x ∙ any-found (holdsBy c at x) _ i li (and-both (and-left (clauseOf c x i) _ hi) ci))
-            (number-holds at y ∙ any-found (holdsBy c at y) _ j lj (and-both (and-left (clauseOf c y j) _ hj) cj)))
+            (and-both (number-held at x i li (and-left (clauseOf c x i) _ hi) ci)
+            (number-held at y j lj (and-left (clauseOf c y j) _ hj) cj))

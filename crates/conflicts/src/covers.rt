@@ -1,5 +1,4 @@
 // What policies cover, and which permissions exclude each other.
-use reader::bytes;
 ghost use mathlib.Core.Path.{_≡_};
 ghost use mathlib.Core.Bool.{false, _&&_, _||_};
 ghost use Prim.Native.Nat.{ℕ, _/_, _≤_, _<_};
@@ -29,13 +28,16 @@ fn seniors_of(juniors: [u8; 8], j: u8) -> u8
 // The set of the roles that policy i covers.
 fn cover(a: &[u8], i: usize, juniors: [u8; 8]) -> u8
     requires { ⌜ (i < length (now a) / 8) × (policiesBad 8 256 (now a) ≡ false) ⌝ }
-    ensures { λ r. ⌜ ((h : List ℕ) → Juniors h juniors → (s : ℕ) → s < 8 → inSet r s ≡ covers h (now (a .entry)) i s) ⌝ }
+    ensures { λ r. ⌜
+        ((h : List ℕ) → Juniors h juniors → (s : ℕ) → s < 8 → inSet r s ≡ covers h (now (a .entry)) i s)
+        ⌝ }
 {
     let role = a[8 * i];
+    let own = weights::sets::role_bit(role);
     if a[8 * i + 3] != 1 {
-        return weights::sets::role_bit(role);
+        return own;
     }
-    weights::sets::role_bit(role) | seniors_of(juniors, role)
+    own | seniors_of(juniors, role)
 }
 
 // Inner: the sets of the roles that the policies cover.
@@ -54,22 +56,33 @@ pub fn cover_sets(h: &[u8], a: &[u8]) -> [u8; 64]
 // Adds q to the set of p.
 fn add_pair(sets: &mut [u32; 16], p: u8, q: u8)
     requires { ⌜ (p < 16) × (q < 16) × (length (now sets) ≡ 16) ⌝ }
-    ensures { λ _. ⌜ (length (now (sets .exit)) ≡ 16) × ((s t : ℕ) → inSet (getD (now (sets .exit)) s 0) t ≡ (inSet (getD (now (sets .entry)) s 0) t || (eqb p s && eqb q t))) ⌝ }
+    ensures { λ _. ⌜
+        (length (now (sets .exit)) ≡ 16)
+        × ((s t : ℕ) → inSet (getD (now (sets .exit)) s 0) t
+        ≡ (inSet (getD (now (sets .entry)) s 0) t || (eqb p s && eqb q t)))
+        ⌝ }
 {
-    let at = bytes::wide(p);
+    let at = p as usize;
     sets[at] = sets[at] | weights::sets::bit(q);
 }
 
 // Adds to the sets what exclusion record e says, if it is of kind 1.
 fn add_exclusion(sets: &mut [u32; 16], x: &[u8], e: usize)
     requires { ⌜ (e < length (now x) / 3) × (exclusionsBad 8 16 (now x) ≡ false) × (length (now sets) ≡ 16) ⌝ }
-    ensures { λ _. ⌜ (length (now (sets .exit)) ≡ 16) × ((s t : ℕ) → inSet (getD (now (sets .exit)) s 0) t ≡ (inSet (getD (now (sets .entry)) s 0) t || excludes (now (x .entry)) s t e)) ⌝ }
+    ensures { λ _. ⌜
+        (length (now (sets .exit)) ≡ 16)
+        × ((s t : ℕ) → inSet (getD (now (sets .exit)) s 0) t
+        ≡ (inSet (getD (now (sets .entry)) s 0) t || excludes (now (x .entry)) s t e))
+        ⌝ }
 {
-    if x[3 * e] != 1 {
+    let at = 3 * e;
+    if x[at] != 1 {
         return;
     }
-    add_pair(sets, x[3 * e + 1], x[3 * e + 2]);
-    add_pair(sets, x[3 * e + 2], x[3 * e + 1]);
+    let p = x[at + 1];
+    let q = x[at + 2];
+    add_pair(sets, p, q);
+    add_pair(sets, q, p);
 }
 
 // Inner: the permissions that each permission excludes, a set a permission.

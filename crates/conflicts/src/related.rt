@@ -7,7 +7,8 @@ ghost use lib.ListN.{length};
 ghost use Rattle.reader.specs.Tables.{contexts, recordCount};
 ghost use Rattle.reader.specs.Fields.{contextLength};
 ghost use Rattle.reader.specs.Rules.{contextsBad};
-ghost use Rattle.conflicts.specs.Related.{clauseOf, fitsAt, fits, bothFit, valueFits, someValueFits, meetable, compatible, joins, related};
+ghost use Rattle.conflicts.specs.Related.{clauseOf, fitsAt, fits, bothFit, valueFits, someValueFits};
+ghost use Rattle.conflicts.specs.Related.{meetable, compatible, joins, related};
 
 // How many values a context's parameter has: minute, day, zone.
 const RANGES: [u32; 3] = [1440, 7, 256];
@@ -28,15 +29,9 @@ fn length_of(c: &[u8], i: usize) -> usize
     ensures { λ r. ⌜ (r ≡ contextLength (now (c .entry)) i) × (r ≤ 3) ⌝ }
 {
     if i < c.len() / 16 {
-        return bytes::wide(c[16 * i + 1]);
+        return c[16 * i + 1] as usize;
     }
     0
-}
-
-fn wide32(x: u16) -> u32
-    ensures { λ r. ⌜ (r ≡ x) × (r < 65536) ⌝ }
-{
-    x as u32
 }
 
 // Value v of parameter p meets condition k of clause i, where that is on p.
@@ -44,11 +39,11 @@ fn fits_at(c: &[u8], i: usize, p: u8, v: u32, k: usize) -> bool
     requires { ⌜ (16 * i + 16 ≤ length (now c)) × (k < 3) ⌝ }
     ensures { λ r. ⌜ r ≡ fitsAt (now (c .entry)) i p v k ⌝ }
 {
-    if c[16 * i + 4 * k + 2] != p {
+    let at = 16 * i + 4 * k;
+    if c[at + 2] != p {
         return true;
     }
-    let value = wide32(bytes::get16(c, 16 * i + 4 * k + 4));
-    weights::operators::is_met(c[16 * i + 4 * k + 3], v, value)
+    weights::operators::is_met(c[at + 3], v, bytes::get16(c, at + 4) as u32)
 }
 
 // Value v of parameter p meets the conditions of clause i on that parameter.
@@ -79,13 +74,17 @@ fn both_fit(c: &[u8], i: usize, j: usize, p: u8, v: u32) -> bool
 
 // Condition k of clause s is on parameter p, and its value, or one more, meets the conditions of clauses i and j.
 fn value_fits(c: &[u8], s: usize, i: usize, j: usize, p: u8, k: usize) -> bool
-    requires { ⌜ (contextsBad (now c) ≡ false) × (length (now c) ≡ 16 * recordCount contexts (now c)) × (p < 3) × (16 * s + 16 ≤ length (now c)) × (k < 3) ⌝ }
+    requires { ⌜
+        (contextsBad (now c) ≡ false) × (length (now c) ≡ 16 * recordCount contexts (now c)) × (p < 3)
+        × (16 * s + 16 ≤ length (now c)) × (k < 3)
+        ⌝ }
     ensures { λ r. ⌜ r ≡ valueFits (now (c .entry)) s i j p k ⌝ }
 {
-    if c[16 * s + 4 * k + 2] != p {
+    let at = 16 * s + 4 * k;
+    if c[at + 2] != p {
         return false;
     }
-    let value = wide32(bytes::get16(c, 16 * s + 4 * k + 4));
+    let value = bytes::get16(c, at + 4) as u32;
     if both_fit(c, i, j, p, value) {
         return true;
     }

@@ -44,7 +44,9 @@ pub fn names(a: &[u8]) -> u32
 
 // Slots s and t are named, s isn't above t, and their numbers are related.
 fn slots_related(c: &[u8], names: u32, s: u8, t: u8) -> bool
-    requires { ⌜ (contextsBad (now c) ≡ false) × (length (now c) ≡ 16 * recordCount contexts (now c)) × (s < 17) × (t < 17) ⌝ }
+    requires { ⌜
+        (contextsBad (now c) ≡ false) × (length (now c) ≡ 16 * recordCount contexts (now c)) × (s < 17) × (t < 17)
+        ⌝ }
     ensures { λ r. ⌜ r ≡ relatedSlots (now (c .entry)) names s t ⌝ }
 {
     if !weights::sets::in_set(names, s) {

@@ -1,15 +1,25 @@
-use Prim.Native.Nat.{_<_}
-use mathlib.Core.Path.{_∙_}
+-- `add_pair` meets its contract: one store, of the set of p with q in it.
+use Prim.Native.Nat.{ℕ, _^_, _<_}
+use mathlib.Core.Bool.{_&&_, _||_}
+use mathlib.Core.List.{List}
+use mathlib.Core.Path.{_≡_, refl, _∙_}
 use native.Mathlib.Omega.{arith}
-use borrow.Author.Needs.{needs}
 use lib.Bits.{bitOr}
-use lib.ListN.{length, getD, length-set}
+use lib.Dec.{eqb}
+use lib.ListN.{length, getD, set, length-set}
+use Rattle.folds.specs.Sets.{inSet}
 use Rattle.conflicts.proofs.Bits.{set-added}
+use borrow.Author.Needs.{needs}
 use Rattle.conflicts.proofs.covers.add_pair.Statement.{statement}
 use Rattle.conflicts.proofs.covers.add_pair.Tie as tie
 
-wide-requires : tie.Need-wide-requires
-wide-requires c κs = search needs
+added : (sets : List ℕ) (p q one : ℕ) → one ≡ 2 ^ q → p < 16 → length sets ≡ 16 →
+    let now = set sets p (bitOr (getD sets p 0) one) in
+    (length now ≡ 16) × ((s t : ℕ) → inSet (getD now s 0) t ≡ (inSet (getD sets s 0) t || (eqb p s && eqb q t)))
+added sets p q one is l size = (
+  length-set sets p (bitOr (getD sets p 0) one) ∙ size,
+  set-added sets p one p q refl is (omega (arith, size)),
+)
 
 mul-sets : tie.Need-mul-sets
 mul-sets c = search needs
@@ -28,14 +38,13 @@ element-write-sets c = search needs
 
 returns : tie.Need-returns
 returns c =
-    let l : c .before .before .before .args .p < length (c .before .before .before .args .sets .now) = omega (arith, c .before .before .before .pre .0, c .before .before .before .pre .2) in
-    (length-set (c .before .before .before .args .sets .now) (c .before .before .wide .result) (bitOr (getD (c .before .before .before .args .sets .now) (c .before .before .wide .result) 0) (c .bit .result)) ∙ c .before .before .before .pre .2, set-added (c .before .before .before .args .sets .now) _ _ (c .before .before .before .args .p) (c .before .before .before .args .q) (c .before .before .wide .ensures .0) (c .bit .ensures) l)
+    let s = c .before .before in
+    added (s .args .sets .now) (s .args .p) (s .args .q) (c .bit .result) (c .bit .ensures) (s .pre .0) (s .pre .2)
 
 pub add-pair-spec : {M : Type 1} → statement M
 add-pair-spec =
     tie.close
     (tie.spec
-    wide-requires
     mul-sets
     element-copy-out-sets
     bit-requires

@@ -1,24 +1,21 @@
-use Prim.Native.Nat.{_≤_, _-_}
-use mathlib.Core.Path.{_≡_, sym, _∙_}
-use mathlib.Core.Logic.{⊎-elim}
+-- `seniors_of` meets its contract: it gathers the roles that have j among their juniors.
+use Prim.Native.Nat.{_-_}
+use mathlib.Core.Logic.{inl, inr}
 use lib.ListN.{getD}
-use Rattle.folds.proofs.Sets.{set-none, set-or, in-set}
-use Rattle.folds.specs.Sets.{inSet, setBelow}
-use Rattle.conflicts.specs.Conflicts.{covers}
-use lib.Bits.{or-zero-r}
-use native.Mathlib.Omega.{arith}
+use Rattle.folds.specs.Sets.{inSet}
+use Rattle.folds.proofs.Gathers.{Gathered, gathered-none, one-added, one-passed, gathered-all}
 use borrow.Author.Needs.{needs}
 use Rattle.conflicts.proofs.covers.seniors_of.Statement.{statement}
 use Rattle.conflicts.proofs.covers.seniors_of.Tie as tie
 
 abbrev Inv-loop : tie.InvT-loop
-Inv-loop j juniors set₀ s₀ set s = (s ≤ 8) × (set ≡ setBelow s (λ k. inSet (getD juniors k 0) j))
+Inv-loop j juniors set₀ s₀ set s = Gathered 8 (λ k. inSet (getD juniors k 0) j) s set
 
 abbrev μ-loop : tie.MeasureT-loop
 μ-loop j juniors set₀ s₀ set s = 8 - s
 
 loop-holds : tie.Need-loop-holds Inv-loop μ-loop
-loop-holds c = (search needs, sym (set-none _))
+loop-holds c = gathered-none
 
 cast-in-set : tie.Need-cast-in-set Inv-loop μ-loop
 cast-in-set c = search needs
@@ -42,10 +39,17 @@ loop-less : tie.Need-loop-less Inv-loop μ-loop
 loop-less c = search needs
 
 loop-again : tie.Need-loop-again Inv-loop μ-loop
-loop-again c = let l = c .before .before .before .loop in (search needs, ⊎-elim (λ w. w .2 ∙ rw (set-or (λ k. inSet (getD (c .before .before .before .before .args .t1) k 0) (c .before .before .before .before .args .j)) (l .s), ← c .before .in-set .ensures, w .0 .taken, l .inv .1, w .1 .ensures)) (λ w. w .1 ∙ rw (set-or (λ k. inSet (getD (c .before .before .before .before .args .t1) k 0) (c .before .before .before .before .args .j)) (l .s), ← c .before .in-set .ensures, w .0 .left, or-zero-r) (l .inv .1)) (c .if1 .came))
+loop-again c =
+    let at = c .before .before in
+    let yet = at .before .loop .inv in
+    let test = c .before .in-set .ensures in
+    elim (c .if1 .came) [
+      | inl d ↦ one-added yet (at .loop-test .taken) test (d .0 .taken) (d .1 .ensures) (d .2)
+      | inr d ↦ one-passed yet (at .loop-test .taken) test (d .0 .left) (d .1)
+    ]
 
 returns : tie.Need-returns Inv-loop μ-loop
-returns c = let l = c .before .loop in let e : l .s ≡ 8 = omega arith in λ k m. rw (l .inv .1, e) (in-set (λ k. inSet (getD (c .before .before .args .t1) k 0) (c .before .before .args .j)) 8 k m)
+returns c = gathered-all (c .before .loop .inv) (c .loop-test .left)
 
 pub seniors-of-spec : {M : Type 1} → statement M
 seniors-of-spec =

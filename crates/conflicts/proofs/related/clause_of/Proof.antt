@@ -1,5 +1,5 @@
+-- `clause_of` meets its contract: in the table by the clause's number, behind it by 255.
 use borrow.Author.Tests.{lt-ltb, le-ltb}
-use Rattle.conflicts.specs.Related.{related}
 use borrow.Author.Needs.{needs}
 use Rattle.conflicts.proofs.related.clause_of.Statement.{statement}
 use Rattle.conflicts.proofs.related.clause_of.Tie as tie

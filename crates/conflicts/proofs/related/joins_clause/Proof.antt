@@ -1,5 +1,5 @@
+-- `joins_clause` meets its contract: clause j is one of the number, and compatible with clause i.
 use borrow.Author.Tests.{not-true, not-false}
-use Rattle.conflicts.specs.Related.{related}
 use borrow.Author.Needs.{needs}
 use Rattle.conflicts.proofs.related.joins_clause.Statement.{statement}
 use Rattle.conflicts.proofs.related.joins_clause.Tie as tie
@@ -14,7 +14,9 @@ are-compatible-requires : tie.Need-are-compatible-requires
 are-compatible-requires c κs = search needs
 
 returns-2 : tie.Need-returns-2
-returns-2 c = rw (← c .before .before .clause-of .ensures, not-false (c .before .before .clause-of .result) (c .before .if1 .left)) (c .are-compatible .ensures)
+returns-2 c =
+    let test = c .before .before .clause-of in
+    rw (← test .ensures, not-false (test .result) (c .before .if1 .left)) (c .are-compatible .ensures)
 
 pub joins-clause-spec : {M : Type 1} → statement M
 joins-clause-spec =

@@ -1,27 +1,56 @@
-use Prim.Native.Nat.{ℕ, _≤_, _-_, _/_}
+-- `names` meets its contract: each turn adds the slot of one policy's context number.
+use Prim.Native.Nat.{ℕ, _+_, _-_, _^_, _≤_, _<_}
+use mathlib.Core.List.{List}
 use mathlib.Core.Path.{_≡_, sym, _∙_}
-use lib.ListN.{length}
+use native.Mathlib.Omega.{arith}
+use lib.Bits.{bitOr}
 use lib.Dec.{eqb}
-use Rattle.folds.proofs.Sets.{in-none, in-added}
-use Rattle.folds.specs.Sets.{inSet}
 use Rattle.folds.specs.Below.{anyBelow}
+use Rattle.folds.specs.Sets.{inSet}
+use Rattle.folds.proofs.Sets.{in-none, in-added}
 use Rattle.folds.proofs.Tests.{any-none, any-next}
+use Rattle.reader.specs.Tables.{policies, recordCount}
+use Rattle.reader.specs.Fields.{policyContext}
 use Rattle.reader.proofs.Accepted.{policy-fine}
 use Rattle.conflicts.specs.Rows.{slotOf, named}
-use Rattle.reader.specs.Fields.{policyContext}
-use native.Mathlib.Omega.{arith}
 use borrow.Author.Needs.{needs}
 use Rattle.conflicts.proofs.relations.names.Statement.{statement}
 use Rattle.conflicts.proofs.relations.names.Tie as tie
 
+-- the loop's invariant: the set has the slots that the policies below i name
+record Turn (a : List ℕ) (set i : ℕ) : Type 0 where
+  within : i ≤ recordCount policies a
+  has : (s : ℕ) → inSet set s ≡ anyBelow i (λ k. eqb (slotOf (policyContext a k)) s)
+
+no-turn : {a : List ℕ} → Turn a 0 0
+no-turn = record { within = omega arith; has = λ s. in-none s ∙ sym (any-none _) }
+
+module _ {a : List ℕ} {set i : ℕ} (turn : Turn a set i) where
+  more : {slot bit : ℕ} → i < recordCount policies a → slot ≡ slotOf (policyContext a i) → bit ≡ 2 ^ slot →
+      Turn a (bitOr set bit) (i + 1)
+  more l is one = record {
+    within = omega arith;
+    has = λ s. rw (one, is) (in-added set (slotOf (policyContext a i)) s ∙ rw (turn .has s, any-next));
+  }
+
+  all : recordCount policies a ≤ i → (s : ℕ) → inSet set s ≡ named a s
+  unfolding named
+  all l s = let e : i ≡ recordCount policies a = omega (arith, turn .within) in rw e at (turn .has s)
+
 abbrev Inv-loop : tie.InvT-loop
-Inv-loop a set₀ i₀ i-end set i = (i ≤ length a / 8) × ((s : ℕ) → inSet set s ≡ anyBelow i (λ k. eqb (slotOf (policyContext a k)) s))
+Inv-loop a set₀ i₀ i-end set i = Turn a set i
 
 abbrev μ-loop : tie.MeasureT-loop
-μ-loop a set₀ i₀ i-end set i = length a / 8 - i
+μ-loop a set₀ i₀ i-end set i = i-end - i
+
+abbrev entered : tie.At-loop Inv-loop μ-loop → tie.Start Inv-loop μ-loop
+entered c = c .before .before
+
+abbrev at-slot : tie.After-slot Inv-loop μ-loop → tie.In-loop Inv-loop μ-loop
+at-slot c = c .before .before
 
 loop-holds : tie.Need-loop-holds Inv-loop μ-loop
-loop-holds c = (search needs, λ s. in-none s ∙ sym (any-none _))
+loop-holds c = no-turn
 
 mul-slot : tie.Need-mul-slot Inv-loop μ-loop
 mul-slot c = search needs
@@ -33,7 +62,10 @@ shared-slice-read-slot : tie.Need-shared-slice-read-slot Inv-loop μ-loop
 shared-slice-read-slot c = search needs
 
 slot-requires : tie.Need-slot-requires Inv-loop μ-loop
-slot-requires c κs = policy-fine 8 256 (c .before .before .before .before .args .a .now) (c .before .before .loop .i) (c .before .before .before .before .pre) (c .before .loop-test .taken) .context
+slot-requires c κs =
+    let at = c .before in
+    let s = entered (at .before) in
+    policy-fine 8 256 (s .args .a .now) (at .before .loop .i) (s .pre) (at .loop-test .taken) .context
 
 bit-requires : tie.Need-bit-requires Inv-loop μ-loop
 bit-requires c κs = omega (arith, c .slot .ensures .1)
@@ -45,11 +77,12 @@ loop-less : tie.Need-loop-less Inv-loop μ-loop
 loop-less c = search needs
 
 loop-again : tie.Need-loop-again Inv-loop μ-loop
-loop-again c = let l = c .before .before .before .before .loop in (search needs, λ s. rw (c .bit .ensures, c .before .slot .ensures .0) (in-added (l .set) _ s ∙ rw (l .inv .1 s, any-next)))
+loop-again c =
+    let at = at-slot (c .before) in
+    more (at .before .loop .inv) (at .loop-test .taken) (c .before .slot .ensures .0) (c .bit .ensures)
 
 returns : tie.Need-returns Inv-loop μ-loop
-unfolding named
-returns c = let l = c .before .loop in let e : l .i ≡ length (c .before .before .before .args .a .now) / 8 = omega arith in λ s. rw (← e) (l .inv .1 s)
+returns c = all (c .before .loop .inv) (c .loop-test .left)
 
 pub names-spec : {M : Type 1} → statement M
 names-spec =

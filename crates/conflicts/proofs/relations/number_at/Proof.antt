@@ -1,3 +1,4 @@
+-- `number_at` meets its contract: place 16 has 255, any other its own number.
 use borrow.Author.Tests.{ne-eqb, eq-eqb}
 use Rattle.conflicts.specs.Rows.{numberAt}
 use Rattle.conflicts.proofs.relations.number_at.Statement.{statement}

@@ -1,26 +1,29 @@
-use Prim.Native.Nat.{_≤_, _-_}
-use mathlib.Core.Path.{_≡_, sym, _∙_}
-use mathlib.Core.Logic.{⊎-elim}
-use Rattle.folds.proofs.Sets.{set-none, set-or, in-set}
-use Rattle.folds.specs.Sets.{setBelow}
-use Rattle.conflicts.specs.Rows.{relatedSlots}
-use lib.Bits.{or-zero-r}
+-- `relation_row` meets its contract: it gathers the slots to which s is related.
+use Prim.Native.Nat.{_-_}
+use mathlib.Core.Logic.{inl, inr}
 use native.Mathlib.Omega.{arith}
+use Rattle.folds.proofs.Gathers.{Gathered, gathered-none, one-added, one-passed, gathered-all}
+use Rattle.conflicts.specs.Rows.{relatedSlots}
 use borrow.Author.Needs.{needs}
 use Rattle.conflicts.proofs.relations.relation_row.Statement.{statement}
 use Rattle.conflicts.proofs.relations.relation_row.Tie as tie
 
 abbrev Inv-loop : tie.InvT-loop
-Inv-loop c names s row₀ t₀ row t = (t ≤ 17) × (row ≡ setBelow t (relatedSlots c names s))
+Inv-loop c names s row₀ t₀ row t = Gathered 17 (relatedSlots c names s) t row
 
 abbrev μ-loop : tie.MeasureT-loop
 μ-loop c names s row₀ t₀ row t = 17 - t
 
+abbrev entered : tie.At-loop Inv-loop μ-loop → tie.Start Inv-loop μ-loop
+entered c = c .before .before
+
 loop-holds : tie.Need-loop-holds Inv-loop μ-loop
-loop-holds c = (search needs, sym (set-none _))
+loop-holds c = gathered-none
 
 slots-related-requires : tie.Need-slots-related-requires Inv-loop μ-loop
-slots-related-requires c κs = (c .before .before .before .pre .0, c .before .before .before .pre .1, c .before .before .before .pre .2, c .loop-test .taken)
+slots-related-requires c κs =
+    let (fine, whole, low) = entered (c .before) .pre in
+    (fine, whole, low, c .loop-test .taken)
 
 bit-requires : tie.Need-bit-requires Inv-loop μ-loop
 bit-requires c κs = omega arith
@@ -32,10 +35,17 @@ loop-less : tie.Need-loop-less Inv-loop μ-loop
 loop-less c = search needs
 
 loop-again : tie.Need-loop-again Inv-loop μ-loop
-loop-again c = let l = c .before .before .before .loop in (search needs, ⊎-elim (λ w. w .2 ∙ rw (set-or (relatedSlots (c .before .before .before .before .before .args .c .now) (c .before .before .before .before .before .args .names) (c .before .before .before .before .before .args .s)) (l .t), ← c .before .slots-related .ensures, w .0 .taken, l .inv .1, w .1 .ensures)) (λ w. w .1 ∙ rw (set-or (relatedSlots (c .before .before .before .before .before .args .c .now) (c .before .before .before .before .before .args .names) (c .before .before .before .before .before .args .s)) (l .t), ← c .before .slots-related .ensures, w .0 .left, or-zero-r) (l .inv .1)) (c .if1 .came))
+loop-again c =
+    let at = c .before .before in
+    let yet = at .before .loop .inv in
+    let test = c .before .slots-related .ensures in
+    elim (c .if1 .came) [
+      | inl d ↦ one-added yet (at .loop-test .taken) test (d .0 .taken) (d .1 .ensures) (d .2)
+      | inr d ↦ one-passed yet (at .loop-test .taken) test (d .0 .left) (d .1)
+    ]
 
 returns : tie.Need-returns Inv-loop μ-loop
-returns c = let l = c .before .loop in let e : l .t ≡ 17 = omega arith in λ t m. rw (l .inv .1, e) (in-set (relatedSlots (c .before .before .before .args .c .now) (c .before .before .before .args .names) (c .before .before .before .args .s)) 17 t m)
+returns c = gathered-all (c .before .loop .inv) (c .loop-test .left)
 
 pub relation-row-spec : {M : Type 1} → statement M
 relation-row-spec =

@@ -1,29 +1,53 @@
-use Rattle.folds.proofs.Lists.{stored}
-use Prim.Native.Nat.{ℕ, _≤_, _<_, _-_}
-use mathlib.Core.Path.{_≡_, refl}
-use lib.ListN.{length, getD, length-set}
-use Rattle.folds.specs.Sets.{inSet}
-use Rattle.conflicts.specs.Rows.{relatedSlots}
+-- `relations` meets its contract: each turn stores the row of one slot.
+use Prim.Native.Nat.{ℕ, _+_, _-_, _≤_, _<_}
+use mathlib.Core.List.{List}
+use mathlib.Core.Path.{_≡_, refl, _∙_}
 use native.Mathlib.Nat.{not-suc-le-zero}
 use native.Mathlib.Omega.{arith}
+use lib.ListN.{length, getD, set, length-set}
+use Rattle.folds.specs.Sets.{inSet}
+use Rattle.folds.proofs.Lists.{stored}
+use Rattle.conflicts.specs.Rows.{relatedSlots, Relations}
 use borrow.Author.Needs.{needs}
 use Rattle.conflicts.proofs.relations.relations.Statement.{statement}
 use Rattle.conflicts.proofs.relations.relations.Tie as tie
 
+-- the row of slot s
+abbrev RowOf : List ℕ → ℕ → ℕ → ℕ → Type 0
+RowOf c names s row = (t : ℕ) → t < 17 → inSet row t ≡ relatedSlots c names s t
+
+-- the loop's invariant: the rows below s are made
+record Turn (c : List ℕ) (names : ℕ) (rows : List ℕ) (s : ℕ) : Type 0 where
+  size : length rows ≡ 17
+  made : (k : ℕ) → k < s → RowOf c names k (getD rows k 0)
+
+module _ {c : List ℕ} {names : ℕ} {rows : List ℕ} {s : ℕ} (turn : Turn c names rows s) where
+  more : s < 17 → (row : ℕ) → RowOf c names s row → Turn c names (set rows s row) (s + 1)
+  more l row is = record {
+    size = length-set rows s row ∙ turn .size;
+    made = stored rows s row (RowOf c names) (omega (arith, turn .size)) (turn .made) is;
+  }
+
+  all : 17 ≤ s → Relations c names rows
+  all l = record { row = λ s t m n. turn .made s (omega arith) t n }
+
 abbrev Inv-loop : tie.InvT-loop
-Inv-loop c names rows₀ s₀ rows s = (s ≤ 17) × (length rows ≡ 17) × ((k : ℕ) → k < s → (t : ℕ) → t < 17 → inSet (getD rows k 0) t ≡ relatedSlots c names k t)
+Inv-loop c names rows₀ s₀ rows s = Turn c names rows s
 
 abbrev μ-loop : tie.MeasureT-loop
 μ-loop c names rows₀ s₀ rows s = 17 - s
 
+abbrev entered : tie.At-loop Inv-loop μ-loop → tie.Start Inv-loop μ-loop
+entered c = c .before .before
+
 loop-holds : tie.Need-loop-holds Inv-loop μ-loop
-loop-holds c = (search needs, refl, λ k l. absurd (not-suc-le-zero l))
+loop-holds c = record { size = refl; made = λ k l. absurd (not-suc-le-zero l) }
 
 cast-relation-row : tie.Need-cast-relation-row Inv-loop μ-loop
 cast-relation-row c = search needs
 
 relation-row-requires : tie.Need-relation-row-requires Inv-loop μ-loop
-relation-row-requires c κs = (c .before .before .before .pre .0, c .before .before .before .pre .1, c .loop-test .taken)
+relation-row-requires c κs = let (fine, whole) = entered (c .before) .pre in (fine, whole, c .loop-test .taken)
 
 mul-rows : tie.Need-mul-rows Inv-loop μ-loop
 mul-rows c = search needs
@@ -38,10 +62,12 @@ loop-less : tie.Need-loop-less Inv-loop μ-loop
 loop-less c = search needs
 
 loop-again : tie.Need-loop-again Inv-loop μ-loop
-loop-again c = let l = c .before .before .loop in (search needs, rw length-set (l .inv .1), stored (l .rows) (l .s) _ (λ k x. (t : ℕ) → t < 17 → inSet x t ≡ relatedSlots (c .before .before .before .before .args .c .now) (c .before .before .before .before .args .names) k t) (let n = l .inv .1 in omega arith) (l .inv .2) (c .relation-row .ensures))
+loop-again c =
+    let at = c .before in
+    more (at .before .loop .inv) (at .loop-test .taken) (c .relation-row .result) (c .relation-row .ensures)
 
 returns : tie.Need-returns Inv-loop μ-loop
-returns c = let l = c .before .loop in let t : 17 ≤ l .s = omega arith in record { row = λ s t m n. l .inv .2 s (omega arith) t n }
+returns c = all (c .before .loop .inv) (c .loop-test .left)
 
 pub relations-spec : {M : Type 1} → statement M
 relations-spec =

@@ -1,3 +1,4 @@
+-- `slot` meets its contract: 255 has place 16, any other number its own.
 use mathlib.Core.Logic.{⊎-elim}
 use borrow.Author.Tests.{ne-eqb, eq-eqb}
 use Rattle.conflicts.specs.Rows.{slotOf}
@@ -12,7 +13,9 @@ returns c = (rw (eq-eqb _ _ (c .if1 .taken)), search needs)
 
 returns-2 : tie.Need-returns-2
 unfolding slotOf
-returns-2 c = (rw (ne-eqb _ _ (c .if1 .left)), ⊎-elim (λ l. omega arith) (λ e. absurd (c .if1 .left e)) (c .before .pre))
+returns-2 c =
+    let other = c .if1 .left in
+    (rw (ne-eqb _ _ other), ⊎-elim (λ l. omega arith) (λ e. absurd (other e)) (c .before .pre))
 
 pub slot-spec : {M : Type 1} → statement M
 slot-spec = tie.close (tie.spec returns returns-2)
