@@ -21,10 +21,11 @@ use Rattle.reader.proofs.Frame.{roles-range, permissions-le}
 use Rattle.reader.proofs.Accepted.{PolicyFine, accepted, policy-fine}
 use Rattle.weights.specs.Seniority.{seniorTo}
 use Rattle.weights.proofs.Chains.{senior-down}
-use Rattle.conflicts.specs.Related.{related}
+use Rattle.related.specs.Related.{related}
 use Rattle.conflicts.specs.Conflicts.{contradict, covers, coverBoth, overlap}
-use Rattle.conflicts.specs.Rows.{slotOf, numberAt, named, Relations, Covers, Excluded, relatedBy, contradictBy, overlapBy, Rows, Contradictions, Overlaps}
-use Rattle.conflicts.proofs.Relating.{related-sym}
+use Rattle.related.specs.Slots.{slotOf, numberAt, named, Relations}
+use Rattle.conflicts.specs.Rows.{Covers, Excluded, relatedBy, contradictBy, overlapBy, Rows, Contradictions, Overlaps}
+use Rattle.related.proofs.Relating.{related-sym}
 
 -- what agrees below n and m has the same rows
 rows-same : (n m : ℕ) (p q : ℕ → ℕ → Bool) (rows : List ℕ) → ((i j : ℕ) → i < n → j < m → p i j ≡ q i j) → Rows n m p rows → Rows n m q rows

@@ -11,7 +11,7 @@ use Rattle.reader.specs.Codes.{heldBy}
 use Rattle.reader.specs.Rules.{refusalOf}
 use Rattle.reader.specs.declared.Answer.{Answer}
 use Rattle.weights.specs.Seniority.{seniorTo}
-use Rattle.conflicts.specs.Related.{related}
+use Rattle.related.specs.Related.{related}
 
 -- policies i and j have equal role and permission, and different weight or type
 unfoldable pub disagree : List ℕ → ℕ → ℕ → Bool

@@ -5,8 +5,6 @@ ghost use lib.ListN.{length};
 ghost use Rattle.conflicts.specs.Conflicts.{conflictAnswer, conflictBytes};
 
 mod covers;
-mod related;
-mod relations;
 mod rows;
 mod writing;
 

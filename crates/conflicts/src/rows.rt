@@ -1,8 +1,8 @@
 // The conflicts of each kind as rows of bits, a row for each first.
 use crate::covers;
-use crate::relations;
 use reader::bytes;
 use reader::trailer;
+use related::slots;
 ghost use mathlib.Core.Path.{_≡_};
 ghost use mathlib.Core.Bool.{false, _&&_};
 ghost use mathlib.Core.Logic.{_⊎_};
@@ -36,8 +36,8 @@ fn related_by(rows: &[u32; 17], x: u8, y: u8) -> bool
     requires { ⌜ ((x ≤ 15) ⊎ (x ≡ 255)) × ((y ≤ 15) ⊎ (y ≡ 255)) ⌝ }
     ensures { λ r. ⌜ r ≡ relatedBy (now (rows .entry)) x y ⌝ }
 {
-    let s = relations::slot(x);
-    let t = relations::slot(y);
+    let s = slots::slot(x);
+    let t = slots::slot(y);
     if s <= t {
         return weights::sets::in_set(rows[s as usize], t);
     }
@@ -129,8 +129,8 @@ pub fn contradictions(base: &[u8]) -> [u64; 64]
     ensures { λ r. ⌜ Contradictions (now (base .entry)) r ⌝ }
 {
     let a = trailer::part(base, reader::POLICIES);
-    let names = relations::names(a);
-    let related = relations::relations(trailer::part(base, reader::CONTEXTS), names);
+    let names = slots::names(a);
+    let related = slots::relations(trailer::part(base, reader::CONTEXTS), names);
     let mut rows = [0u64; 64];
     for i in 0..a.len() / 8 {
         rows[i] = contradict_row(&related, a, i);

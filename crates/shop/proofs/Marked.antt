@@ -15,9 +15,9 @@ use Rattle.weights.specs.Weights.{weight}
 use Rattle.decision.specs.Conditions.{permissionHolds}
 use Rattle.decision.specs.Groups.{sumOf, lengthRefused, someUnknown, standsBefore, someTwice, someIneligible, someWeightless, membersRefusal}
 use Rattle.decision.specs.Decision.{groupDecision, decisionOf}
-use Rattle.conflicts.specs.Related.{related, fits, bothFit, someValueFits, meetable, compatible, meetsSome}
+use Rattle.related.specs.Related.{related, fits, bothFit, someValueFits, meetable, compatible, meetsSome}
 use Rattle.conflicts.proofs.Tables.{whole-contexts}
-use Rattle.conflicts.proofs.Relating.{related-pairs}
+use Rattle.related.proofs.Relating.{related-pairs}
 use Rattle.shop.specs.Shop.{shop, withParameter, upTo600, from600, before600, before0, edges}
 use Rattle.shop.specs.Marked.{Marked}
 

@@ -13,7 +13,7 @@ use Rattle.weights.specs.Contexts.{outOfRange, contextHolds}
 use Rattle.weights.specs.Weights.{weight}
 use Rattle.decision.specs.Groups.{entryCount, sumOf}
 use Rattle.decision.specs.Decision.{decisionOf}
-use Rattle.conflicts.specs.Related.{related}
+use Rattle.related.specs.Related.{related}
 use Rattle.shop.specs.Shop.{shop, manager, buyer, clerk, permission, at, managerAlone, managerAndClerk, buyerAndClerks, user0Twice, user2AsBuyer, withParameter, upTo600, from600, before600, before0, edges}
 
 pub record Marked : Type 0 where

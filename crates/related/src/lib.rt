@@ -1,0 +1,3 @@
+// Which context numbers are related: some one context satisfies both.
+mod clauses;
+pub mod slots;
