@@ -1,4 +1,5 @@
--- What the check's answer says: the chain of 1 to 9 in its two halves, and, of an accepted base, the range of each field.
+-- What the check's answer says: the chain of 1 to 9 in its two halves, and, of an accepted base, the range of each
+-- field.
 use Prim.Native.Nat.{ℕ, _+_, _*_, _^_, _<_, _≤_}
 use mathlib.Core.Bool.{Bool, true, false, _&&_, _||_, not, cond}
 use mathlib.Core.Path.{_≡_, refl, sym, _∙_}
@@ -11,21 +12,35 @@ use lib.Dec.{ltb, eqb}
 use lib.ListN.{length}
 use Rattle.folds.proofs.Bools.{or-left, or-right, clash, met-or-not}
 use Rattle.folds.proofs.Tests.{any-at}
-use Rattle.reader.specs.Fields.{senior, junior, parameter, clausePermission, clauseLength, conditionAttribute, conditionOperator, conditionValue, contextNumber, contextLength, contextParameter, contextOperator, contextValue, policyRole, policyPermission, policyWeight, policyType, policyContext, exclusionKind, exclusionFirst, exclusionSecond}
+use Rattle.reader.specs.Fields.{senior, junior, parameter, clausePermission, clauseLength}
+use Rattle.reader.specs.Fields.{conditionAttribute, conditionOperator, conditionValue}
+use Rattle.reader.specs.Fields.{contextNumber, contextLength, contextParameter, contextOperator, contextValue}
+use Rattle.reader.specs.Fields.{policyRole, policyPermission, policyWeight, policyType, policyContext}
+use Rattle.reader.specs.Fields.{exclusionKind, exclusionFirst, exclusionSecond}
 use Rattle.reader.specs.Codes.{parameterOk, codeProduct, heldBy, holds}
 use Rattle.folds.specs.Sets.{inSet}
 use Rattle.folds.proofs.Sets.{in-set-high}
 use Rattle.reader.proofs.Frame.{roles-range}
 use Rattle.reader.proofs.Parameter.{roles-held}
-use Rattle.reader.specs.Tables.{width, hierarchy, users, clauses, contexts, policies, exclusions, roleCount, permissionCount, tableOf, recordCount, lengthBad, lettersBad, trailerBad, frameRefusal}
-use Rattle.reader.specs.Rules.{rangeOf, outside, conditionBad, clauseSlotBad, clauseBad, contextConditionBad, contextSlotBad, contextBad, policyBad, exclusionBad, hierarchyRecordBad, userBad, hierarchyBad, usersBad, clausesBad, contextsBad, policiesBad, exclusionsBad, recordsRefusal, refusalOf}
+use Rattle.reader.specs.Tables.{width, hierarchy, users, clauses, contexts, policies, exclusions}
+use Rattle.reader.specs.Tables.{roleCount, permissionCount, tableOf, recordCount}
+use Rattle.reader.specs.Tables.{lengthBad, lettersBad, trailerBad, frameRefusal}
+use Rattle.reader.specs.Rules.{rangeOf, outside, hierarchyRecordBad, userBad}
+use Rattle.reader.specs.Rules.{conditionBad, clauseSlotBad, clauseBad, contextConditionBad, contextSlotBad}
+use Rattle.reader.specs.Rules.{contextBad, policyBad, exclusionBad}
+use Rattle.reader.specs.Rules.{hierarchyBad, usersBad, clausesBad, contextsBad, policiesBad, exclusionsBad}
+use Rattle.reader.specs.Rules.{recordsRefusal, refusalOf}
+
+-- the chain of refusals 1 to 3, then the rest
+abbrev frame-or : Bool → Bool → Bool → ℕ → ℕ
+frame-or x y z rest = cond x 1 (cond y 2 (cond z 3 rest))
 
 -- refusals 1 to 3 come first
 pub refused-frame : (b : List ℕ) → (frameRefusal b ≡ 0 → ⊥) → refusalOf b ≡ frameRefusal b
 unfolding refusalOf frameRefusal
 refused-frame b = by (lengthBad b) (lettersBad b) (trailerBad b) (recordsRefusal b)
   where
-    by : (x y z : Bool) (r : ℕ) → (cond {A = ℕ} x 1 (cond y 2 (cond z 3 0)) ≡ 0 → ⊥) → cond {A = ℕ} x 1 (cond y 2 (cond z 3 r)) ≡ cond x 1 (cond y 2 (cond z 3 0))
+    by : (x y z : Bool) (r : ℕ) → (frame-or x y z 0 ≡ 0 → ⊥) → frame-or x y z r ≡ frame-or x y z 0
     by true y z r h = refl
     by false true z r h = refl
     by false false true r h = refl
@@ -36,7 +51,7 @@ pub refused-records : (b : List ℕ) → frameRefusal b ≡ 0 → refusalOf b �
 unfolding refusalOf frameRefusal
 refused-records b = by (lengthBad b) (lettersBad b) (trailerBad b) (recordsRefusal b)
   where
-    by : (x y z : Bool) (r : ℕ) → cond {A = ℕ} x 1 (cond y 2 (cond z 3 0)) ≡ 0 → cond {A = ℕ} x 1 (cond y 2 (cond z 3 r)) ≡ r
+    by : (x y z : Bool) (r : ℕ) → frame-or x y z 0 ≡ 0 → frame-or x y z r ≡ r
     by true y z r h = absurd (suc-ne-zero 0 h)
     by false true z r h = absurd (suc-ne-zero 1 h)
     by false false true r h = absurd (suc-ne-zero 2 h)
@@ -47,7 +62,7 @@ pub accepted-frame : (b : List ℕ) → refusalOf b ≡ 0 → frameRefusal b ≡
 unfolding refusalOf frameRefusal
 accepted-frame b = by (lengthBad b) (lettersBad b) (trailerBad b) (recordsRefusal b)
   where
-    by : (x y z : Bool) (r : ℕ) → cond {A = ℕ} x 1 (cond y 2 (cond z 3 r)) ≡ 0 → cond {A = ℕ} x 1 (cond y 2 (cond z 3 0)) ≡ 0
+    by : (x y z : Bool) (r : ℕ) → frame-or x y z r ≡ 0 → frame-or x y z 0 ≡ 0
     by true y z r h = h
     by false true z r h = h
     by false false true r h = h
@@ -68,7 +83,8 @@ none-of false false false false false false h = (refl, refl, refl, refl, refl, r
 -- record i of table t lies in the table's bytes
 pub record-within : (t : ℕ) (r : List ℕ) (i : ℕ) → i < recordCount t r → width t * i + width t ≤ length r
 record-within t r i h =
-    rw (← mul-suc (width t) i) (le-trans (mul-le-mul-left (width t) h) (rw mul-comm (div-mul-le-self (length r) (width t))))
+    let all : width t * recordCount t r ≤ length r = rw mul-comm (div-mul-le-self (length r) (width t)) in
+    rw (← mul-suc (width t) i) (le-trans (mul-le-mul-left (width t) h) all)
 
 -- what the rules say of the records of an accepted base
 pub record HierarchyFine (R : ℕ) (h : List ℕ) (i : ℕ) : Type 0 where
@@ -85,7 +101,8 @@ pub record ClauseFine (R P : ℕ) (k : List ℕ) (i : ℕ) : Type 0 where
   pub permission : clausePermission k i < P
   pub some : 1 ≤ clauseLength k i
   pub at-most : clauseLength k i ≤ 4
-  pub condition : (j : ℕ) → j < clauseLength k i → ConditionFine R (conditionAttribute k i j) (conditionOperator k i j) (conditionValue k i j)
+  pub condition : (j : ℕ) → j < clauseLength k i →
+      ConditionFine R (conditionAttribute k i j) (conditionOperator k i j) (conditionValue k i j)
 
 pub record ContextConditionFine (p operator value : ℕ) : Type 0 where
   pub parameter-le : p ≤ 2
@@ -96,7 +113,8 @@ pub record ContextFine (c : List ℕ) (i : ℕ) : Type 0 where
   pub number : contextNumber c i ≤ 15
   pub some : 1 ≤ contextLength c i
   pub at-most : contextLength c i ≤ 3
-  pub condition : (j : ℕ) → j < contextLength c i → ContextConditionFine (contextParameter c i j) (contextOperator c i j) (contextValue c i j)
+  pub condition : (j : ℕ) → j < contextLength c i →
+      ContextConditionFine (contextParameter c i j) (contextOperator c i j) (contextValue c i j)
 
 pub record PolicyFine (R P : ℕ) (a : List ℕ) (i : ℕ) : Type 0 where
   pub role : policyRole a i < R
@@ -128,7 +146,8 @@ condition-fine : (R a o v : ℕ) → conditionBad R a o v ≡ false → Conditio
 unfolding conditionBad
 condition-fine R a o v = by (ltb a 3) refl
   where
-    by : (t : Bool) → ltb a 3 ≡ t → cond t (ltb 5 o) (not (eqb a 3) || (not (eqb o 6) || not (ltb v (2 ^ R)))) ≡ false → ConditionFine R a o v
+    by : (t : Bool) → ltb a 3 ≡ t →
+        cond t (ltb 5 o) (not (eqb a 3) || (not (eqb o 6) || not (ltb v (2 ^ R)))) ≡ false → ConditionFine R a o v
     by true e h =
         let l : a < 3 = ltb-true _ _ e in
         record { attribute-le = omega arith; number = λ k. ltb-false _ _ h; set = λ q. absurd (omega arith) }
@@ -166,58 +185,61 @@ module _ (R P : ℕ) (r : List ℕ) (i : ℕ) where
   pub clause-fine : clausesBad R P r ≡ false → i < recordCount clauses r → ClauseFine R P r i
   unfolding clausesBad clauseBad clauseSlotBad
   clause-fine h l =
-      let k = any-at (clauseBad R P r) _ h i l in
-      let k₂ = or-right (not (ltb (clausePermission r i) P)) _ k in
-      let k₃ = or-left _ _ (or-right (outside 1 4 (clauseLength r i)) _ k₂) in
-      let most : clauseLength r i ≤ 4 = ltb-false _ _ (or-right (ltb (clauseLength r i) 1) _ (or-left _ _ k₂)) in
+      let whole = any-at (clauseBad R P r) _ h i l in
+      let past-permission = or-right (not (ltb (clausePermission r i) P)) _ whole in
+      let count = or-left _ _ past-permission in
+      let slots = or-left _ _ (or-right (outside 1 4 (clauseLength r i)) _ past-permission) in
+      let most : clauseLength r i ≤ 4 = ltb-false _ _ (or-right (ltb (clauseLength r i) 1) _ count) in
       record {
-        permission = below _ _ (or-left _ _ k);
-        some = ltb-false _ _ (or-left _ _ (or-left _ _ k₂));
+        permission = below _ _ (or-left _ _ whole);
+        some = ltb-false _ _ (or-left _ _ count);
         at-most = most;
         condition = λ j m. condition-fine _ _ _ _
-            (rw (lt-ltb _ _ m) at (any-at (clauseSlotBad R r i) 4 k₃ j (omega arith)));
+            (rw (lt-ltb _ _ m) at (any-at (clauseSlotBad R r i) 4 slots j (omega arith)));
       }
 
   pub context-fine : contextsBad r ≡ false → i < recordCount contexts r → ContextFine r i
   unfolding contextsBad contextBad contextSlotBad
   context-fine h l =
-      let k = any-at (contextBad r) _ h i l in
-      let k₂ = or-right (ltb 15 (contextNumber r i)) _ k in
-      let k₃ = or-left _ _ (or-right (outside 1 3 (contextLength r i)) _ k₂) in
-      let most : contextLength r i ≤ 3 = ltb-false _ _ (or-right (ltb (contextLength r i) 1) _ (or-left _ _ k₂)) in
+      let whole = any-at (contextBad r) _ h i l in
+      let past-context = or-right (ltb 15 (contextNumber r i)) _ whole in
+      let count = or-left _ _ past-context in
+      let slots = or-left _ _ (or-right (outside 1 3 (contextLength r i)) _ past-context) in
+      let most : contextLength r i ≤ 3 = ltb-false _ _ (or-right (ltb (contextLength r i) 1) _ count) in
       record {
-        number = ltb-false _ _ (or-left _ _ k);
-        some = ltb-false _ _ (or-left _ _ (or-left _ _ k₂));
+        number = ltb-false _ _ (or-left _ _ whole);
+        some = ltb-false _ _ (or-left _ _ count);
         at-most = most;
         condition = λ j m. context-condition-fine _ _ _
-            (rw (lt-ltb _ _ m) at (any-at (contextSlotBad r i) 3 k₃ j (omega arith)));
+            (rw (lt-ltb _ _ m) at (any-at (contextSlotBad r i) 3 slots j (omega arith)));
       }
 
   pub policy-fine : policiesBad R P r ≡ false → i < recordCount policies r → PolicyFine R P r i
   unfolding policiesBad policyBad
   policy-fine h l =
-      let k = any-at (policyBad R P r) _ h i l in
-      let k₂ = or-right (not (ltb (policyRole r i) R)) _ k in
-      let k₃ = or-right (not (ltb (policyPermission r i) P)) _ k₂ in
-      let k₄ = or-right (outside 1 5 (policyWeight r i)) _ k₃ in
+      let whole = any-at (policyBad R P r) _ h i l in
+      let past-role = or-right (not (ltb (policyRole r i) R)) _ whole in
+      let past-permission = or-right (not (ltb (policyPermission r i) P)) _ past-role in
+      let weight = or-left _ _ past-permission in
+      let past-weight = or-right (outside 1 5 (policyWeight r i)) _ past-permission in
       record {
-        role = below _ _ (or-left _ _ k);
-        permission = below _ _ (or-left _ _ k₂);
-        weight-pos = ltb-false _ _ (or-left _ _ (or-left _ _ k₃));
-        weight-le = ltb-false _ _ (or-right (ltb (policyWeight r i) 1) _ (or-left _ _ k₃));
-        type-le = ltb-false _ _ (or-left _ _ k₄);
-        context = number-or-none (policyContext r i) (or-right (ltb 1 (policyType r i)) _ k₄);
+        role = below _ _ (or-left _ _ whole);
+        permission = below _ _ (or-left _ _ past-role);
+        weight-pos = ltb-false _ _ (or-left _ _ weight);
+        weight-le = ltb-false _ _ (or-right (ltb (policyWeight r i) 1) _ weight);
+        type-le = ltb-false _ _ (or-left _ _ past-weight);
+        context = number-or-none (policyContext r i) (or-right (ltb 1 (policyType r i)) _ past-weight);
       }
 
   pub exclusion-fine : exclusionsBad R P r ≡ false → i < recordCount exclusions r → ExclusionFine R P r i
   unfolding exclusionsBad exclusionBad
   exclusion-fine h l =
-      let k = any-at (exclusionBad R P r) _ h i l in
-      let k₂ = or-right (ltb 1 (exclusionKind r i)) _ k in
+      let whole = any-at (exclusionBad R P r) _ h i l in
+      let past-kind = or-right (ltb 1 (exclusionKind r i)) _ whole in
       record {
-        kind-le = ltb-false _ _ (or-left _ _ k);
-        rising = below _ _ (or-left _ _ k₂);
-        there = below _ _ (or-right (not (ltb (exclusionFirst r i) (exclusionSecond r i))) _ k₂);
+        kind-le = ltb-false _ _ (or-left _ _ whole);
+        rising = below _ _ (or-left _ _ past-kind);
+        there = below _ _ (or-right (not (ltb (exclusionFirst r i) (exclusionSecond r i))) _ past-kind);
       }
 
 -- a base that passes the check: its tables are there, and none of their records is bad
@@ -234,16 +256,26 @@ pub accepted : (b : List ℕ) → refusalOf b ≡ 0 → Accepted b
 unfolding recordsRefusal
 accepted b ok =
     let f = accepted-frame b ok in
-    let w = none-of _ _ _ _ _ _ (sym (refused-records b f) ∙ ok) in
-    record { frame = f; hierarchy = w .0; users = w .1; clauses = w .2; contexts = w .3; policies = w .4; exclusions = w .5 }
+    let (h, u, k, c, a, x) = none-of _ _ _ _ _ _ (sym (refused-records b f) ∙ ok) in
+    record { frame = f; hierarchy = h; users = u; clauses = k; contexts = c; policies = a; exclusions = x }
 
 -- the law of membership: each user of an accepted base holds exactly the roles of a set below R, and the parameter is
 -- the product of their codes
 pub holds-set : (b : List ℕ) → refusalOf b ≡ 0 → (u : ℕ) → u < recordCount 1 (tableOf b 1) →
-    (s : ℕ) × (s < 2 ^ roleCount b) × (parameter (tableOf b 1) u ≡ codeProduct (roleCount b) s) × ((r : ℕ) → holds b u r ≡ inSet s r)
+    (s : ℕ) × (s < 2 ^ roleCount b) × (parameter (tableOf b 1) u ≡ codeProduct (roleCount b) s)
+    × ((r : ℕ) → holds b u r ≡ inSet s r)
 unfolding heldBy
 holds-set b ok u l =
     let A = accepted b ok in
     let R = roleCount b in
-    let (s, small, e, m) = roles-held R _ (roles-range b (A .frame) .1) (user-fine R 0 (tableOf b 1) u (A .users) l) in
-    (s, small, e, λ r. rw (lt-ltb _ _ l) (⊎-elim (λ k. rw k (m r (ltb-true _ _ k))) (λ k. rw k (sym (in-set-high R s r small (ltb-false _ _ k)))) (met-or-not (ltb r R))))
+    let fine = user-fine R 0 (tableOf b 1) u (A .users) l in
+    let (s, small, e, m) = roles-held R _ (roles-range b (A .frame) .1) fine in (
+      s,
+      small,
+      e,
+      λ r. rw (lt-ltb _ _ l)
+          (⊎-elim
+          (λ k. rw k (m r (ltb-true _ _ k)))
+          (λ k. rw k (sym (in-set-high R s r small (ltb-false _ _ k))))
+          (met-or-not (ltb r R))),
+    )

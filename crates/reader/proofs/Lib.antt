@@ -1,3 +1,4 @@
 pub mod Frame
 pub mod Parameter
 pub mod Accepted
+pub mod Conditions

@@ -1,4 +1,5 @@
--- The fields of the records by name. The first argument is the bytes of the field's table, the second the record's number.
+-- The fields of the records by name. The first argument is the bytes of the field's table, the second the record's
+-- number.
 use Prim.Native.Nat.{ℕ, _+_, _*_}
 use mathlib.Core.List.{List}
 use lib.ListN.{getD}

@@ -1,13 +1,18 @@
 -- The base check: refusals 4 to 9, each over all records of its table, and the chain of 1 to 9.
 -- R is the number of roles, P the number of permissions. A test is true where the input is bad.
 use Prim.Native.Nat.{ℕ, _^_}
-use mathlib.Core.Bool.{Bool, true, _&&_, _||_, not, cond}
+use mathlib.Core.Bool.{Bool, _&&_, _||_, not, cond}
 use mathlib.Core.List.{List, [], _∷_}
 use lib.ListN.{getD}
 use lib.Dec.{ltb, eqb}
 use Rattle.folds.specs.Below.{anyBelow}
-use Rattle.reader.specs.Tables.{hierarchy, users, permissions, clauses, contexts, policies, exclusions, recordCount, roleCount, permissionCount, tableOf, lengthBad, lettersBad, trailerBad}
-use Rattle.reader.specs.Fields.{senior, junior, parameter, clausePermission, clauseLength, conditionAttribute, conditionOperator, conditionValue, contextNumber, contextLength, contextParameter, contextOperator, contextValue, zeroByte14, zeroByte15, policyRole, policyPermission, policyWeight, policyType, policyContext, exclusionKind, exclusionFirst, exclusionSecond}
+use Rattle.reader.specs.Tables.{hierarchy, users, clauses, contexts, policies, exclusions, recordCount}
+use Rattle.reader.specs.Tables.{roleCount, permissionCount, tableOf, lengthBad, lettersBad, trailerBad}
+use Rattle.reader.specs.Fields.{senior, junior, parameter, clausePermission, clauseLength}
+use Rattle.reader.specs.Fields.{conditionAttribute, conditionOperator, conditionValue}
+use Rattle.reader.specs.Fields.{contextNumber, contextLength, contextParameter, contextOperator, contextValue}
+use Rattle.reader.specs.Fields.{zeroByte14, zeroByte15, policyRole, policyPermission, policyWeight}
+use Rattle.reader.specs.Fields.{policyType, policyContext, exclusionKind, exclusionFirst, exclusionSecond}
 use Rattle.reader.specs.Codes.{parameterOk}
 
 abbrev nonzero : ℕ → Bool

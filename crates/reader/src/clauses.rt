@@ -1,4 +1,5 @@
-// The records of K: refusal 6.
+// The records of K: refusal 6. `|` makes each of its tests, whatever the others say, without a branch.
+use crate::bytes;
 ghost use mathlib.Core.Path.{_≡_};
 ghost use Prim.Native.Nat.{_+_, _*_, _≤_, _<_};
 ghost use lib.ListN.{length};
@@ -10,15 +11,10 @@ fn condition_bad(roles: u8, attribute: u8, operator: u8, value: u8) -> bool
     ensures { λ r. ⌜ r ≡ conditionBad roles attribute operator value ⌝ }
 {
     if attribute < 3 {
-        return 5 < operator;
+        5 < operator
+    } else {
+        (attribute != 3) | (operator != 6) | (1u32 << roles <= value as u32)
     }
-    if attribute != 3 {
-        return true;
-    }
-    if operator != 6 {
-        return true;
-    }
-    1u32 << roles <= value as u32
 }
 
 // Condition j of record i, used or not.
@@ -26,19 +22,16 @@ fn clause_slot_bad(k: &[u8], i: usize, j: usize, roles: u8) -> bool
     requires { ⌜ (16 * i + 16 ≤ length (now k)) × ((j < 4) × (roles ≤ 8)) ⌝ }
     ensures { λ r. ⌜ r ≡ clauseSlotBad roles (now (k .entry)) i j ⌝ }
 {
-    let attribute = k[16 * i + 3 * j + 2];
-    let operator = k[16 * i + 3 * j + 3];
-    let value = k[16 * i + 3 * j + 4];
-    if j < k[16 * i + 1] as usize {
-        return condition_bad(roles, attribute, operator, value);
+    let at = 16 * i;
+    let slot = at + 3 * j;
+    let attribute = k[slot + 2];
+    let operator = k[slot + 3];
+    let value = k[slot + 4];
+    if j < k[at + 1] as usize {
+        condition_bad(roles, attribute, operator, value)
+    } else {
+        (attribute != 0) | (operator != 0) | (value != 0)
     }
-    if attribute != 0 {
-        return true;
-    }
-    if operator != 0 {
-        return true;
-    }
-    value != 0
 }
 
 fn clause_slots_bad(k: &[u8], i: usize, roles: u8) -> bool
@@ -57,22 +50,11 @@ fn clause_bad(k: &[u8], i: usize, roles: u8, permissions: u8) -> bool
     requires { ⌜ (16 * i + 16 ≤ length (now k)) × (roles ≤ 8) ⌝ }
     ensures { λ r. ⌜ r ≡ clauseBad roles permissions (now (k .entry)) i ⌝ }
 {
-    if permissions <= k[16 * i] {
-        return true;
-    }
-    if k[16 * i + 1] < 1 {
-        return true;
-    }
-    if 4 < k[16 * i + 1] {
-        return true;
-    }
-    if clause_slots_bad(k, i, roles) {
-        return true;
-    }
-    if k[16 * i + 14] != 0 {
-        return true;
-    }
-    k[16 * i + 15] != 0
+    let at = 16 * i;
+    let length = k[at + 1];
+    let slots_bad = clause_slots_bad(k, i, roles);
+    let zeros = bytes::get16(k, at + 14);
+    (permissions <= k[at]) | (length < 1) | (4 < length) | slots_bad | (zeros != 0)
 }
 
 // Inner: refusal 6.

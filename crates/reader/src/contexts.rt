@@ -1,4 +1,4 @@
-// The records of C: refusal 7.
+// The records of C: refusal 7. `|` makes each of its tests, whatever the others say, without a branch.
 use crate::bytes;
 ghost use mathlib.Core.Path.{_≡_};
 ghost use Prim.Native.Nat.{_+_, _*_, _≤_, _<_};
@@ -13,12 +13,10 @@ fn context_condition_bad(parameter: u8, operator: u8, value: u16) -> bool
     ensures { λ r. ⌜ r ≡ contextConditionBad parameter operator value ⌝ }
 {
     if 2 < parameter {
-        return true;
+        true
+    } else {
+        (5 < operator) | (RANGES[parameter as usize] <= value)
     }
-    if 5 < operator {
-        return true;
-    }
-    RANGES[parameter as usize] <= value
 }
 
 // Condition j of record i, used or not.
@@ -26,19 +24,16 @@ fn context_slot_bad(c: &[u8], i: usize, j: usize) -> bool
     requires { ⌜ (16 * i + 16 ≤ length (now c)) × (j < 3) ⌝ }
     ensures { λ r. ⌜ r ≡ contextSlotBad (now (c .entry)) i j ⌝ }
 {
-    let parameter = c[16 * i + 4 * j + 2];
-    let operator = c[16 * i + 4 * j + 3];
-    let value = bytes::get16(c, 16 * i + 4 * j + 4);
-    if j < c[16 * i + 1] as usize {
-        return context_condition_bad(parameter, operator, value);
+    let at = 16 * i;
+    let slot = at + 4 * j;
+    let parameter = c[slot + 2];
+    let operator = c[slot + 3];
+    let value = bytes::get16(c, slot + 4);
+    if j < c[at + 1] as usize {
+        context_condition_bad(parameter, operator, value)
+    } else {
+        (parameter != 0) | (operator != 0) | (value != 0)
     }
-    if parameter != 0 {
-        return true;
-    }
-    if operator != 0 {
-        return true;
-    }
-    value != 0
 }
 
 fn context_slots_bad(c: &[u8], i: usize) -> bool
@@ -57,22 +52,11 @@ fn context_bad(c: &[u8], i: usize) -> bool
     requires { ⌜ 16 * i + 16 ≤ length (now c) ⌝ }
     ensures { λ r. ⌜ r ≡ contextBad (now (c .entry)) i ⌝ }
 {
-    if 15 < c[16 * i] {
-        return true;
-    }
-    if c[16 * i + 1] < 1 {
-        return true;
-    }
-    if 3 < c[16 * i + 1] {
-        return true;
-    }
-    if context_slots_bad(c, i) {
-        return true;
-    }
-    if c[16 * i + 14] != 0 {
-        return true;
-    }
-    c[16 * i + 15] != 0
+    let at = 16 * i;
+    let length = c[at + 1];
+    let slots_bad = context_slots_bad(c, i);
+    let zeros = bytes::get16(c, at + 14);
+    (15 < c[at]) | (length < 1) | (3 < length) | slots_bad | (zeros != 0)
 }
 
 // Inner: refusal 7.
