@@ -28,15 +28,17 @@ pub extern "C" fn release_decide(
     zone: u32,
     group: &[u8],
 ) -> u32
-    ensures { λ r. ⌜ r ≡ decisionOf (now (base .entry)) (record { minute = minute; day = day; zone = zone }) permission (now (group .entry)) ⌝ }
+    ensures { λ r. ⌜
+        r ≡ decisionOf (now (base .entry)) (record { minute = minute; day = day; zone = zone })
+        permission (now (group .entry)) ⌝ }
 {
     let at = Context { minute, day, zone };
     decision::decide(base, permission, at, group) as u32
 }
 
-// The release report: 0, and 13 bytes a permission in out, or the first of refusals 1 to 9, 11 and 19 that applies; plus
-// 256 times the count, which is the number of permissions that have a group. A refusal carries 0. base and out don't
-// overlap.
+// The release report: 0, and 13 bytes a permission in out, or the first of refusals 1 to 9, 11 and 19 that applies;
+// plus 256 times the count, which is the number of permissions that have a group. A refusal carries 0. base and out
+// don't overlap.
 #[no_mangle]
 pub extern "C" fn release_report(
     base: &[u8],
@@ -45,9 +47,15 @@ pub extern "C" fn release_report(
     zone: u32,
     out: &mut [u8],
 ) -> u64
-    ensures answer { λ r. ⌜ r ≡ packed (reportAnswer (now (base .entry)) (record { minute = minute; day = day; zone = zone }) (length (now (out .entry)))) ⌝ }
-    ensures promise { λ r. ⌜ Reported (now (base .entry)) (record { minute = minute; day = day; zone = zone }) (now (out .entry)) (now (out .exit)) (unpacked r) ⌝ }
-    ensures demand { λ r. ⌜ Demanded (now (base .entry)) (record { minute = minute; day = day; zone = zone }) (now (out .entry)) (now (out .exit)) (unpacked r) ⌝ }
+    ensures answer { λ r. ⌜
+        r ≡ packed (reportAnswer (now (base .entry)) (record { minute = minute; day = day; zone = zone })
+        (length (now (out .entry)))) ⌝ }
+    ensures promise { λ r. ⌜
+        Reported (now (base .entry)) (record { minute = minute; day = day; zone = zone })
+        (now (out .entry)) (now (out .exit)) (unpacked r) ⌝ }
+    ensures demand { λ r. ⌜
+        Demanded (now (base .entry)) (record { minute = minute; day = day; zone = zone })
+        (now (out .entry)) (now (out .exit)) (unpacked r) ⌝ }
 {
     let at = Context { minute, day, zone };
     pack(report::report(base, at, out))
@@ -57,7 +65,9 @@ pub extern "C" fn release_report(
 // is the number of records, of 18 the number that would be written, of 1 to 9 zero. base and out don't overlap.
 #[no_mangle]
 pub extern "C" fn release_conflicts(base: &[u8], out: &mut [u8]) -> u64
-    ensures { λ r. ⌜ (r ≡ packed (conflictAnswer (now (base .entry)) (length (now (out .entry))))) × (now (out .exit) ≡ conflictBytes (now (base .entry)) (now (out .entry))) ⌝ }
+    ensures { λ r. ⌜
+        (r ≡ packed (conflictAnswer (now (base .entry)) (length (now (out .entry))))) ×
+        (now (out .exit) ≡ conflictBytes (now (base .entry)) (now (out .entry))) ⌝ }
 {
     pack(conflicts::list(base, out))
 }

@@ -6,14 +6,18 @@ use mathlib.Core.List.{List}
 use native.Mathlib.Omega.{arith}
 use Rattle.folds.specs.Below.{anyBelow}
 use Rattle.reader.specs.Bytes.{word16, word32}
-use Rattle.reader.specs.Tables.{contexts, recordCount, tableOf, tableOffset, tableCount, roleCount, lengthBad, lettersBad, rolesBad, reservedBad, tableStart, tablesBad, trailerBad, frameRefusal}
+use Rattle.reader.specs.Tables.{contexts, recordCount, tableOf, tableOffset, tableCount, tableStart, roleCount}
+use Rattle.reader.specs.Tables.{lengthBad, lettersBad, rolesBad, reservedBad, tablesBad, trailerBad, frameRefusal}
 use Rattle.reader.specs.Codes.{codeProduct, parameterOk, heldBy}
-use Rattle.reader.specs.Rules.{hierarchyBad, usersBad, clauseSlotBad, clauseBad, clausesBad, contextConditionBad, contextSlotBad, contextBad, contextsBad, policyBad, policiesBad, exclusionsBad, recordsRefusal, refusalOf}
+use Rattle.reader.specs.Rules.{hierarchyBad, usersBad, clauseSlotBad, clauseBad, clausesBad}
+use Rattle.reader.specs.Rules.{contextConditionBad, contextSlotBad, contextBad, contextsBad, policyBad, policiesBad}
+use Rattle.reader.specs.Rules.{exclusionsBad, recordsRefusal, refusalOf}
 use Rattle.reader.proofs.Accepted.{accepted}
 use Rattle.weights.specs.Contexts.{outOfRange, contextHolds}
 use Rattle.weights.specs.Weights.{weight}
 use Rattle.decision.specs.Conditions.{permissionHolds}
-use Rattle.decision.specs.Groups.{sumOf, lengthRefused, someUnknown, standsBefore, someTwice, someIneligible, someWeightless, membersRefusal}
+use Rattle.decision.specs.Groups.{sumOf, lengthRefused, someUnknown, standsBefore, someTwice, someIneligible}
+use Rattle.decision.specs.Groups.{someWeightless, membersRefusal}
 use Rattle.decision.specs.Decision.{groupDecision, decisionOf}
 use Rattle.related.specs.Related.{related, fits, bothFit, someValueFits, meetable, compatible, meetsSome}
 use Rattle.conflicts.proofs.Tables.{whole-contexts}
@@ -23,17 +27,20 @@ use Rattle.shop.specs.Marked.{Marked}
 
 -- in an accepted base the test by pairs of clauses, which computes, says whether two context numbers are related
 related-by : (b : List ℕ) → refusalOf b ≡ 0 → (x y : ℕ) →
-    related (tableOf b contexts) x y ≡ anyBelow (recordCount contexts (tableOf b contexts) + 1) (meetsSome (tableOf b contexts) x y)
+    related (tableOf b contexts) x y
+    ≡ anyBelow (recordCount contexts (tableOf b contexts) + 1) (meetsSome (tableOf b contexts) x y)
 related-by b ok = related-pairs (tableOf b contexts) (accepted b ok .contexts) (whole-contexts b ok)
 
 pub marked : Marked
 unfolding shop withParameter edges
     word16 word32 tableOf tableOffset tableCount tableStart roleCount frameRefusal
     lengthBad lettersBad trailerBad rolesBad reservedBad tablesBad
-    hierarchyBad usersBad parameterOk codeProduct clausesBad clauseBad clauseSlotBad contextsBad contextBad contextSlotBad contextConditionBad policiesBad policyBad exclusionsBad
+    hierarchyBad usersBad parameterOk codeProduct clausesBad clauseBad clauseSlotBad
+    contextsBad contextBad contextSlotBad contextConditionBad policiesBad policyBad exclusionsBad
     recordsRefusal refusalOf
     contextHolds weight
-    outOfRange lengthRefused someUnknown someTwice standsBefore someIneligible heldBy membersRefusal someWeightless sumOf permissionHolds groupDecision decisionOf
+    outOfRange lengthRefused someUnknown someTwice standsBefore someIneligible heldBy membersRefusal someWeightless
+    sumOf permissionHolds groupDecision decisionOf
     fits bothFit someValueFits meetable compatible
 marked =
     record {

@@ -12,7 +12,9 @@ use Rattle.folds.proofs.Bools.{met-or-not}
 use Rattle.folds.proofs.Tests.{all-same, any-same, first-same}
 use Rattle.folds.proofs.Numbers.{sum-same}
 use Rattle.reader.specs.Tables.{hierarchy, contexts, policies, roleCount, tableOf, recordCount}
-use Rattle.reader.specs.Fields.{senior, junior, contextNumber, contextLength, contextParameter, contextOperator, contextValue, policyRole, policyPermission, policyWeight, policyType, policyContext}
+use Rattle.reader.specs.Fields.{senior, junior}
+use Rattle.reader.specs.Fields.{contextNumber, contextLength, contextParameter, contextOperator, contextValue}
+use Rattle.reader.specs.Fields.{policyRole, policyPermission, policyWeight, policyType, policyContext}
 use Rattle.weights.specs.declared.Context.{Context}
 use Rattle.weights.specs.Contexts.{contextConditionHolds, contextClauseHolds, clauseOfHolds, contextHolds}
 use Rattle.weights.specs.Seniority.{chainWithin, seniorTo}
@@ -29,8 +31,10 @@ pub record SameContexts (c d : List ℕ) : Type 0 where
   pub count : recordCount contexts c ≡ recordCount contexts d
   pub number : (i : ℕ) → i < recordCount contexts c → contextNumber c i ≡ contextNumber d i
   pub length : (i : ℕ) → i < recordCount contexts c → contextLength c i ≡ contextLength d i
-  pub parameter : (i j : ℕ) → i < recordCount contexts c → j < contextLength c i → contextParameter c i j ≡ contextParameter d i j
-  pub operator : (i j : ℕ) → i < recordCount contexts c → j < contextLength c i → contextOperator c i j ≡ contextOperator d i j
+  pub parameter : (i j : ℕ) → i < recordCount contexts c → j < contextLength c i →
+      contextParameter c i j ≡ contextParameter d i j
+  pub operator : (i j : ℕ) → i < recordCount contexts c → j < contextLength c i →
+      contextOperator c i j ≡ contextOperator d i j
   pub value : (i j : ℕ) → i < recordCount contexts c → j < contextLength c i → contextValue c i j ≡ contextValue d i j
 
 -- A records that agree but for their weights; nothing here reads rank and issue day
@@ -54,7 +58,9 @@ same-chain : (h k : List ℕ) → SameHierarchy h k → (n s j : ℕ) → chainW
 unfolding chainWithin
 same-chain h k e zero s j = refl
 same-chain h k e (suc n) s j =
-    rw (← e .count) (any-same _ _ (recordCount hierarchy h) (λ i l. rw (e .from i l, e .to i l, same-chain h k e n (junior k i) j)))
+    rw (← e .count)
+    (any-same _ _ (recordCount hierarchy h)
+    (λ i l. rw (e .from i l, e .to i l, same-chain h k e n (junior k i) j)))
 
 -- the same roles are senior
 pub same-senior : (h k : List ℕ) → SameHierarchy h k → (s j : ℕ) → seniorTo h s j ≡ seniorTo k s j
@@ -62,17 +68,22 @@ unfolding seniorTo
 same-senior h k e s j = same-chain h k e 8 s j
 
 module _ (at : Context) (c d : List ℕ) (e : SameContexts c d) where
-  -- a clause inForce by both tables or by neither
+  -- a clause holds by both tables or by neither
   same-clause : (i : ℕ) → i < recordCount contexts c → contextClauseHolds at c i ≡ contextClauseHolds at d i
   unfolding contextClauseHolds contextConditionHolds
   same-clause i l =
-      rw (← e .length i l) (all-same _ _ (contextLength c i) (λ j m. rw (e .parameter i j l m, e .operator i j l m, e .value i j l m)))
+      rw (← e .length i l)
+      (all-same _ _ (contextLength c i)
+      (λ j m. rw (e .parameter i j l m, e .operator i j l m, e .value i j l m)))
 
   -- the same context numbers hold
   pub same-context : (n : ℕ) → contextHolds at c n ≡ contextHolds at d n
   unfolding contextHolds
   same-context n =
-      rw (← e .count, any-same (clauseOfHolds at c n) (clauseOfHolds at d n) (recordCount contexts c) (λ i l. rw (e .number i l, same-clause i l)))
+      let same =
+      any-same (clauseOfHolds at c n) (clauseOfHolds at d n) (recordCount contexts c)
+      (λ i l. rw (e .number i l, same-clause i l)) in
+      rw (← e .count, same)
 
 module _ (inForce others f : ℕ → Bool) (a d : List ℕ) (r p n : ℕ) (e : SameChoice a d) (l : n ≤ recordCount policies a)
     (h : (m : ℕ) → inForce m ≡ others m) where
@@ -81,10 +92,12 @@ module _ (inForce others f : ℕ → Bool) (a d : List ℕ) (r p n : ℕ) (e : S
   unfolding chosen
   same-chosen =
       first-same (candidate inForce f a r p) (candidate others f d r p) n
-      (λ i k. let m : i < recordCount policies a = omega arith in rw (e .role i m, e .permission i m, e .type i m, e .context i m, h))
+      (λ i k. let m : i < recordCount policies a = omega arith in
+      rw (e .role i m, e .permission i m, e .type i m, e .context i m, h))
 
   -- and with equal weights so is its weight
-  pub same-chosen-weight : ((i : ℕ) → i < n → policyWeight a i ≡ policyWeight d i) → chosenWeight inForce f a n r p ≡ chosenWeight others f d n r p
+  pub same-chosen-weight : ((i : ℕ) → i < n → policyWeight a i ≡ policyWeight d i) →
+      chosenWeight inForce f a n r p ≡ chosenWeight others f d n r p
   unfolding chosenWeight
   same-chosen-weight w =
       rw same-chosen
@@ -93,8 +106,10 @@ module _ (inForce others f : ℕ → Bool) (a d : List ℕ) (r p n : ℕ) (e : S
 module _ (b d : List ℕ) (e : SameWeighing b d) (at : Context) where
   -- the weight of the policy that counts, by either filter
   same-first : (f : ℕ → Bool) (r p : ℕ) →
-      chosenWeight (contextHolds at (tableOf b contexts)) f (tableOf b policies) (recordCount policies (tableOf b policies)) r p
-      ≡ chosenWeight (contextHolds at (tableOf d contexts)) f (tableOf d policies) (recordCount policies (tableOf d policies)) r p
+      chosenWeight (contextHolds at (tableOf b contexts)) f (tableOf b policies)
+      (recordCount policies (tableOf b policies)) r p
+      ≡ chosenWeight (contextHolds at (tableOf d contexts)) f (tableOf d policies)
+      (recordCount policies (tableOf d policies)) r p
   same-first f r p =
       rw (← e .policies .count)
       (same-chosen-weight _ _ f _ _ r p _ (e .policies) (le-refl _) (same-context at _ _ (e .contexts)) (e .weights))
@@ -114,4 +129,5 @@ module _ (b d : List ℕ) (e : SameWeighing b d) (at : Context) where
   unfolding weight
   same-weight r p =
       rw (same-own r p, ← e .roles)
-      (ap (_+_ (own d at r p)) (sum-same _ _ (roleCount b) (λ j l. rw (same-senior _ _ (e .hierarchy) r j, same-inh j p))))
+      (ap (_+_ (own d at r p))
+      (sum-same _ _ (roleCount b) (λ j l. rw (same-senior _ _ (e .hierarchy) r j, same-inh j p))))

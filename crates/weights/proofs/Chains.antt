@@ -25,7 +25,8 @@ started : (rest : ℕ → Bool) (h : List ℕ) (s j i : ℕ) → starts rest h s
     (senior h i ≡ s) × ((junior h i ≡ j) ⊎ (rest (junior h i) ≡ true))
 started rest h s j i e =
     let k = and-right (eqb (senior h i) s) _ e in
-    (eqb-true _ _ (and-left _ _ e), ⊎-elim (λ q. inl (eqb-true _ _ q)) (λ q. inr q) (or-either (eqb (junior h i) j) _ k))
+    let to = ⊎-elim (λ q. inl (eqb-true _ _ q)) (λ q. inr q) (or-either (eqb (junior h i) j) _ k) in
+    (eqb-true _ _ (and-left _ _ e), to)
 
 -- each test is a chain
 within-chain : (k : ℕ) (h : List ℕ) (s j : ℕ) → chainWithin k h s j ≡ true → Chain h s j
@@ -42,7 +43,10 @@ pub hierarchy-wider : (R : ℕ) (h : List ℕ) → R ≤ 8 → hierarchyBad R h 
 unfolding hierarchyBad
 hierarchy-wider R h l fine =
     any-each (hierarchyRecordBad 8 h) (recordCount hierarchy h)
-    (λ i m. let f = hierarchy-fine R 0 h i fine m in let d = f .down in let k : junior h i < 8 = omega arith in rw (lt-ltb _ _ d, lt-ltb _ _ k))
+    (λ i m. let f = hierarchy-fine R 0 h i fine m in
+    let d = f .down in
+    let k : junior h i < 8 = omega arith in
+    rw (lt-ltb _ _ d, lt-ltb _ _ k))
 
 -- a table H that passed the check, with R roles
 module _ (R : ℕ) (h : List ℕ) (small : R ≤ 8) (fine : hierarchyBad R h ≡ false) where
@@ -56,16 +60,20 @@ module _ (R : ℕ) (h : List ℕ) (small : R ≤ 8) (fine : hierarchyBad R h ≡
       any-each (starts (λ r. chainWithin 0 h r j) h s j) (recordCount hierarchy h)
       (λ i m. rw (ne-eqb (senior h i) s (λ q. let f = rises i m in omega arith)))
   within-more (suc k) s j l =
-      any-same (starts (λ r. chainWithin (suc k) h r j) h s j) (starts (λ r. chainWithin k h r j) h s j) (recordCount hierarchy h)
+      any-same (starts (λ r. chainWithin (suc k) h r j) h s j) (starts (λ r. chainWithin k h r j) h s j)
+      (recordCount hierarchy h)
       (λ i m. ⊎-elim
-      (λ e. let q : senior h i ≡ s = eqb-true _ _ e in let f = rises i m in rw (within-more k (junior h i) j (omega arith)))
+      (λ e. let q : senior h i ≡ s = eqb-true _ _ e in
+      let f = rises i m in
+      rw (within-more k (junior h i) j (omega arith)))
       (λ e. rw e) (met-or-not (eqb (senior h i) s)))
 
   -- s is senior to j by one record, or to a senior of j by one record
   pub senior-step : (s j : ℕ) → seniorTo h s j ≡ anyBelow (recordCount hierarchy h) (starts (λ r. seniorTo h r j) h s j)
   unfolding seniorTo chainWithin
   senior-step s j =
-      any-same (starts (λ r. chainWithin 7 h r j) h s j) (starts (λ r. chainWithin 8 h r j) h s j) (recordCount hierarchy h)
+      any-same (starts (λ r. chainWithin 7 h r j) h s j) (starts (λ r. chainWithin 8 h r j) h s j)
+      (recordCount hierarchy h)
       (λ i m. let f = rises i m in rw (within-more 7 (junior h i) j (omega arith)))
 
   -- the law of seniority: a chain of one or more H records leads from s to j
@@ -75,7 +83,8 @@ module _ (R : ℕ) (h : List ℕ) (small : R ≤ 8) (fine : hierarchyBad R h ≡
     where
       found : (s j : ℕ) → Chain h s j → seniorTo h s j ≡ true
       found s j (one {i = i} l) =
-          senior-step s j ∙ any-found (starts (λ r. seniorTo h r j) h s j) _ i (l .there) (rw (eq-eqb _ _ (l .from), eq-eqb _ _ (l .to)))
+          senior-step s j ∙ any-found (starts (λ r. seniorTo h r j) h s j) _ i (l .there)
+          (rw (eq-eqb _ _ (l .from), eq-eqb _ _ (l .to)))
       found s j (more {i = i} l c) =
           senior-step s j ∙ any-found (starts (λ r. seniorTo h r j) h s j) _ i (l .there)
           (rw (eq-eqb _ _ (l .from), l .to, found _ j c, or-true))
@@ -85,7 +94,8 @@ module _ (R : ℕ) (h : List ℕ) (small : R ≤ 8) (fine : hierarchyBad R h ≡
   senior-down s j e = down s j (senior-chain s j .0 e)
     where
       down : (s j : ℕ) → Chain h s j → (s < j) × (j < R)
-      down s j (one {i = i} l) = let f = rises i (l .there) in let a = l .from in let b = l .to in (omega arith, omega arith)
+      down s j (one {i = i} l) =
+          let f = rises i (l .there) in let a = l .from in let b = l .to in (omega arith, omega arith)
       down s j (more {i = i} {m = m} l c) =
           let f = rises i (l .there) in let a = l .from in let b = l .to in let d = down m j c in (omega arith, d .1)
 
@@ -103,8 +113,8 @@ chain-in h k m s j (more {i = i} l c) =
     more (record { there = w .1 .there; from = w .1 .from ∙ l .from; to = w .1 .to ∙ l .to }) (chain-in h k m _ j c)
 
 -- repeated records and the order of records change nothing
-pub same-records : (R : ℕ) (h k : List ℕ) → R ≤ 8 → hierarchyBad R h ≡ false → hierarchyBad R k ≡ false → RecordsIn h k → RecordsIn k h →
-    (s j : ℕ) → seniorTo h s j ≡ seniorTo k s j
+pub same-records : (R : ℕ) (h k : List ℕ) → R ≤ 8 → hierarchyBad R h ≡ false → hierarchyBad R k ≡ false →
+    RecordsIn h k → RecordsIn k h → (s j : ℕ) → seniorTo h s j ≡ seniorTo k s j
 same-records R h k small fh fk hk kh s j =
     same-test (seniorTo h s j) (seniorTo k s j)
     (λ e. senior-chain R k small fk s j .1 (chain-in h k hk s j (senior-chain R h small fh s j .0 e)))

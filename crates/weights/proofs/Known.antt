@@ -15,4 +15,6 @@ pub acting-known : (R : ℕ) (us : List ℕ) (u r : ℕ) → mayActBy R us u r �
 unfolding heldBy
 acting-known R us u r h =
     let rest = and-right (ltb u (recordCount users us)) (ltb r R && codeDivides r (parameter us u)) h in
-    (ltb-true _ _ (and-left (ltb u (recordCount users us)) _ h), ltb-true _ _ (and-left (ltb r R) (codeDivides r (parameter us u)) rest))
+    let user = and-left (ltb u (recordCount users us)) _ h in
+    let role = and-left (ltb r R) (codeDivides r (parameter us u)) rest in
+    (ltb-true _ _ user, ltb-true _ _ role)

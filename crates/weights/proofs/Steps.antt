@@ -27,7 +27,8 @@ use Rattle.weights.proofs.Chains.{starts, senior-step}
 
 -- a clause that holds adds its context number
 pub holding-more : (at : Context) (c : List ℕ) (s n i : ℕ) → inSet s n ≡ anyBelow i (clauseOfHolds at c n) →
-    contextClauseHolds at c i ≡ true → inSet (bitOr s (2 ^ contextNumber c i)) n ≡ anyBelow (i + 1) (clauseOfHolds at c n)
+    contextClauseHolds at c i ≡ true →
+    inSet (bitOr s (2 ^ contextNumber c i)) n ≡ anyBelow (i + 1) (clauseOfHolds at c n)
 holding-more at c s n i inv e = rw (in-added, inv, any-next, e, and-true)
 
 -- one that doesn't hold adds none
@@ -42,11 +43,13 @@ junior-more h known x s j i inv e =
     let k = junior h i in
     let y = getD known k 0 in
     rw (any-next, eq-eqb (senior h i) s e, ← inv)
-    (in-or x (bitOr (2 ^ k) y) j ∙ ap (λ (b : Bool). inSet x j || b) (in-or (2 ^ k) y j ∙ ap (λ (b : Bool). b || inSet y j) (in-one k j ∙ eqb-sym j k)))
+    (in-or x (bitOr (2 ^ k) y) j
+    ∙ ap (λ (b : Bool). inSet x j || b)
+    (in-or (2 ^ k) y j ∙ ap (λ (b : Bool). b || inSet y j) (in-one k j ∙ eqb-sym j k)))
 
 -- another record adds none
-pub junior-same : (h known : List ℕ) (x s j i : ℕ) → inSet x j ≡ anyBelow i (nextJunior h known s j) → (senior h i ≡ s → ⊥) →
-    inSet x j ≡ anyBelow (i + 1) (nextJunior h known s j)
+pub junior-same : (h known : List ℕ) (x s j i : ℕ) → inSet x j ≡ anyBelow i (nextJunior h known s j) →
+    (senior h i ≡ s → ⊥) → inSet x j ≡ anyBelow (i + 1) (nextJunior h known s j)
 junior-same h known x s j i inv e = rw (any-next, ne-eqb _ _ e, or-false) inv
 
 -- the juniors of s, from those of the roles with higher numbers
@@ -56,7 +59,9 @@ pub juniors-next : (h known : List ℕ) (s : ℕ) → hierarchyBad 8 h ≡ false
 juniors-next h known s fine above j =
     any-same (nextJunior h known s j) (starts (λ r. seniorTo h r j) h s j) (recordCount hierarchy h)
     (λ i m. ⊎-elim
-    (λ e. let q : senior h i ≡ s = eqb-true _ _ e in let f = hierarchy-fine 8 0 h i fine m in rw (above (junior h i) j (omega arith) (f .role)))
+    (λ e. let q : senior h i ≡ s = eqb-true _ _ e in
+    let f = hierarchy-fine 8 0 h i fine m in
+    rw (above (junior h i) j (omega arith) (f .role)))
     (λ e. rw e) (met-or-not (eqb (senior h i) s)))
     ∙ sym (senior-step 8 h (omega arith) fine s j)
 

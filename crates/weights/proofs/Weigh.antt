@@ -127,8 +127,9 @@ module _ (b : List ℕ) (ok : refusalOf b ≡ 0) where
       where
         none : (j : ℕ) → share b at p r j ≡ 0
         none j =
+            let chain = senior-chain (roleCount b) (tableOf b hierarchy) small (accepted b ok .hierarchy) r j in
             ⊎-elim
-            (λ e. absurd (h j (senior-chain (roleCount b) (tableOf b hierarchy) small (accepted b ok .hierarchy) r j .0 e)))
+            (λ e. absurd (h j (chain .0 e)))
             (λ e. rw e) (met-or-not (seniorTo (tableOf b hierarchy) r j))
 
     -- a weight is at most 40

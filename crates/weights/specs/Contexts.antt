@@ -12,7 +12,8 @@ use Rattle.weights.specs.Operators.{meets}
 
 -- refusal 11: minute, day or zone is out of range
 unfoldable pub outOfRange : Context → Bool
-outOfRange at = not (ltb (at .minute) (rangeOf 0)) || (not (ltb (at .day) (rangeOf 1)) || not (ltb (at .zone) (rangeOf 2)))
+outOfRange at =
+    not (ltb (at .minute) (rangeOf 0)) || (not (ltb (at .day) (rangeOf 1)) || not (ltb (at .zone) (rangeOf 2)))
 
 -- the context's value of parameter p: minute, day and zone are parameters 0, 1 and 2
 unfoldable pub valueOf : Context → ℕ → ℕ
@@ -21,7 +22,8 @@ valueOf at p = cond (eqb p 0) (at .minute) (cond (eqb p 1) (at .day) (at .zone))
 -- condition j of clause i of the table C holds
 unfoldable pub contextConditionHolds : Context → List ℕ → ℕ → ℕ → Bool
 unfolding meets valueOf
-contextConditionHolds at c i j = meets (contextOperator c i j) (valueOf at (contextParameter c i j)) (contextValue c i j)
+contextConditionHolds at c i j =
+    meets (contextOperator c i j) (valueOf at (contextParameter c i j)) (contextValue c i j)
 
 -- a clause holds if its n conditions hold
 unfoldable pub contextClauseHolds : Context → List ℕ → ℕ → Bool

@@ -24,7 +24,8 @@ unfoldable pub chainWithin : ℕ → List ℕ → ℕ → ℕ → Bool
 unfolding anyBelow
 chainWithin zero h s j = false
 chainWithin (suc k) h s j =
-    anyBelow (recordCount hierarchy h) (λ i. eqb (senior h i) s && (eqb (junior h i) j || chainWithin k h (junior h i) j))
+    anyBelow (recordCount hierarchy h)
+    (λ i. eqb (senior h i) s && (eqb (junior h i) j || chainWithin k h (junior h i) j))
 
 -- role s is senior to role j. In an accepted base the roles of a chain rise, so it has at most 7 records, and 8 are
 -- enough; the law `senior-chain` says that this test is the chain

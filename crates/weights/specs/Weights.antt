@@ -16,7 +16,8 @@ active inForce a i = inForce (policyContext a i)
 
 -- policy i is an active one of role r for permission p, and its type passes the filter f
 abbrev pub candidate : (ℕ → Bool) → (ℕ → Bool) → List ℕ → ℕ → ℕ → ℕ → Bool
-candidate inForce f a r p i = (eqb (policyRole a i) r && eqb (policyPermission a i) p) && (f (policyType a i) && active inForce a i)
+candidate inForce f a r p i =
+    (eqb (policyRole a i) r && eqb (policyPermission a i) p) && (f (policyType a i) && active inForce a i)
 
 -- the policy that counts among the first n: the first candidate in table order; n where there is none
 unfoldable pub chosen : (ℕ → Bool) → (ℕ → Bool) → List ℕ → ℕ → ℕ → ℕ → ℕ
@@ -38,12 +39,16 @@ typeOne t = eqb t 1
 -- own(r, p): the weight of the first active policy of role r for permission p, or 0
 unfoldable pub own : List ℕ → Context → ℕ → ℕ → ℕ
 unfolding chosenWeight contextHolds
-own b at r p = chosenWeight (contextHolds at (tableOf b contexts)) anyType (tableOf b policies) (recordCount policies (tableOf b policies)) r p
+own b at r p =
+    chosenWeight (contextHolds at (tableOf b contexts)) anyType (tableOf b policies)
+    (recordCount policies (tableOf b policies)) r p
 
 -- inh(r, p): the same over policies of type 1
 unfoldable pub inh : List ℕ → Context → ℕ → ℕ → ℕ
 unfolding chosenWeight contextHolds
-inh b at r p = chosenWeight (contextHolds at (tableOf b contexts)) typeOne (tableOf b policies) (recordCount policies (tableOf b policies)) r p
+inh b at r p =
+    chosenWeight (contextHolds at (tableOf b contexts)) typeOne (tableOf b policies)
+    (recordCount policies (tableOf b policies)) r p
 
 -- what role j hands on to role r: inh(j, p) where r is senior to j
 abbrev pub share : List ℕ → Context → ℕ → ℕ → ℕ → ℕ

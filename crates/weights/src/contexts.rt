@@ -37,20 +37,14 @@ fn value_of(at: Context, parameter: u8) -> u32
     at.zone
 }
 
-fn wide(x: u16) -> u32
-    ensures { λ r. ⌜ r ≡ x ⌝ }
-{
-    x as u32
-}
-
 // Condition j of clause i.
 fn condition_holds(c: &[u8], i: usize, j: usize, at: Context) -> bool
     requires { ⌜ (16 * i + 16 ≤ length (now c)) × (j < 3) ⌝ }
     ensures { λ r. ⌜ r ≡ contextConditionHolds at (now (c .entry)) i j ⌝ }
 {
-    let value = wide(bytes::get16(c, 16 * i + 4 * j + 4));
-    let x = value_of(at, c[16 * i + 4 * j + 2]);
-    operators::is_met(c[16 * i + 4 * j + 3], x, value)
+    let place = 16 * i + 4 * j;
+    let x = value_of(at, c[place + 2]);
+    operators::is_met(c[place + 3], x, bytes::get16(c, place + 4) as u32)
 }
 
 fn clause_holds(c: &[u8], i: usize, at: Context) -> bool

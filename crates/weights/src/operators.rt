@@ -35,24 +35,15 @@ pub fn range_of(operator: u8, v: u8) -> Range
 {
     let x = bytes::wide(v);
     match operator {
-        0..=1 => if operator == 0 {
-            from_to(x + 1, 256)
-        } else {
-            from_to(0, x)
-        },
-        2..=3 => if operator == 2 {
-            from_to(x, 256)
-        } else {
-            from_to(0, x + 1)
-        },
-        4..=5 => if operator == 4 {
-            from_to(x, x + 1)
-        } else {
-            Range {
-                low: 0,
-                end: 256,
-                but: x,
-            }
+        0 => from_to(x + 1, 256),
+        1 => from_to(0, x),
+        2 => from_to(x, 256),
+        3 => from_to(0, x + 1),
+        4 => from_to(x, x + 1),
+        5 => Range {
+            low: 0,
+            end: 256,
+            but: x,
         },
         _ => from_to(0, 0),
     }

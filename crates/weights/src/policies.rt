@@ -6,7 +6,7 @@ ghost use mathlib.Core.Path.{_≡_};
 ghost use mathlib.Core.Bool.{false, cond};
 ghost use mathlib.Core.Logic.{_⊎_};
 ghost use Prim.Native.Nat.{_+_, _*_, _/_, _≤_, _<_};
-ghost use lib.ListN.{length};
+ghost use lib.ListN.{length, getD, set};
 ghost use lib.Dec.{eqb};
 ghost use Rattle.reader.specs.Rules.{policiesBad};
 ghost use Rattle.weights.specs.Setting.{inForceBy, firstOf, AreChosen};
@@ -32,6 +32,15 @@ fn first_of(kept: u8, given: u8) -> u8
     kept
 }
 
+// Keeps the given weight at a place that has none.
+fn keep_first(kept: &mut [u8; 128], place: usize, given: u8)
+    requires { ⌜ place < 128 ⌝ }
+    ensures { λ _. ⌜
+        now (kept .exit) ≡ set (now (kept .entry)) place (firstOf (getD (now (kept .entry)) place 0) given) ⌝ }
+{
+    kept[place] = first_of(kept[place], given);
+}
+
 // The weight of a policy of type 1; 0 for another type.
 fn type_one_weight(weight: u8, policy_type: u8) -> u8
     ensures { λ w. ⌜ w ≡ cond (eqb «policy_type» 1) weight 0 ⌝ }
@@ -55,17 +64,16 @@ pub fn chosen_weights(a: &[u8], contexts: u32) -> ChosenWeights
     requires { ⌜ policiesBad 8 16 (now a) ≡ false ⌝ }
     ensures { λ f. ⌜ AreChosen contexts (now (a .entry)) (length (now (a .entry)) / 8) f ⌝ }
 {
-    let mut f = ChosenWeights {
-        own: [0u8; 128],
-        inh: [0u8; 128],
-    };
+    let mut own = [0u8; 128];
+    let mut inh = [0u8; 128];
     for i in 0..a.len() / 8 {
-        if in_force(contexts, a[8 * i + 4]) {
-            let at = place_of(a[8 * i + 1], a[8 * i]);
-            let weight = a[8 * i + 2];
-            f.own[at] = first_of(f.own[at], weight);
-            f.inh[at] = first_of(f.inh[at], type_one_weight(weight, a[8 * i + 3]));
+        let at = 8 * i;
+        if in_force(contexts, a[at + 4]) {
+            let place = place_of(a[at + 1], a[at]);
+            let weight = a[at + 2];
+            keep_first(&mut own, place, weight);
+            keep_first(&mut inh, place, type_one_weight(weight, a[at + 3]));
         }
     }
-    f
+    ChosenWeights { own, inh }
 }

@@ -1,3 +1,4 @@
+-- `pack` meets its contract: the sum fits.
 use native.Mathlib.Omega.{arith}
 use borrow.Author.Needs.{needs}
 use Rattle.exports.proofs.pack.Statement.{statement}

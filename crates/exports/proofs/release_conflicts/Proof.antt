@@ -1,3 +1,4 @@
+-- `release_conflicts` meets its contract: the answer of the list, packed.
 use mathlib.Core.Path.{ap, _∙_}
 use Rattle.exports.specs.Packed.{packed}
 use borrow.Author.Needs.{needs}
@@ -14,7 +15,9 @@ same-length : tie.Need-same-length
 same-length c = search needs
 
 returns : tie.Need-returns
-returns c = (c .pack .ensures ∙ ap packed (c .before .before .before .list .ensures .0), c .before .before .before .list .ensures .1)
+returns c =
+    let (answer, bytes) = c .before .before .before .list .ensures in
+    (c .pack .ensures ∙ ap packed answer, bytes)
 
 pub release-conflicts-spec : {M : Type 1} → statement M
 release-conflicts-spec = tie.close (tie.spec list-requires pack-requires same-length returns)

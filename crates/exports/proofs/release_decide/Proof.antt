@@ -1,3 +1,4 @@
+-- `release_decide` meets its contract: the decision's number fits.
 use borrow.Author.Needs.{needs}
 use Rattle.exports.proofs.release_decide.Statement.{statement}
 use Rattle.exports.proofs.release_decide.Tie as tie

@@ -1,3 +1,4 @@
+-- `release_report` meets its contract: the number carries the report's answer, so the promises of one are the other's.
 use mathlib.Core.Path.{_≡_, ap, _∙_}
 use mir.Val.{Fits}
 use mir.Syntax.{w8}
@@ -18,9 +19,12 @@ same-length c = search needs
 
 returns : tie.Need-returns
 returns c =
-    let small : Fits w8 (c .before .before .before .report .result .refusal) = search needs in
-    let u : unpacked (c .pack .result) ≡ c .before .before .before .report .result = ap unpacked (c .pack .ensures) ∙ unpacked-packed (c .before .before .before .report .result) (small .fits) in
-    (c .pack .ensures ∙ ap packed (c .before .before .before .report .ensures .0 .answer), (rw u (c .before .before .before .report .ensures .0), rw u (c .before .before .before .report .ensures .1)))
+    let made = c .before .before .before .report in
+    let (promise, demand) = made .ensures in
+    let small : Fits w8 (made .result .refusal) = search needs in
+    let packs = c .pack .ensures in
+    let carries = ap unpacked packs ∙ unpacked-packed (made .result) (small .fits) in
+    (packs ∙ ap packed (promise .answer), (rw carries promise, rw carries demand))
 
 pub release-report-spec : {M : Type 1} → statement M
 release-report-spec = tie.close (tie.spec report-requires pack-requires same-length returns)

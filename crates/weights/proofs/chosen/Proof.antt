@@ -1,3 +1,4 @@
+-- `chosen` meets its contract: the table read is the base's, and the pass over it gives what the base has.
 use borrow.Author.Needs.{needs}
 use Rattle.reader.proofs.Accepted.{accepted}
 use Rattle.weights.proofs.Weigh.{policies-small, chosen-by}

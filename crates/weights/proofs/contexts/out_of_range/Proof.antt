@@ -1,3 +1,4 @@
+-- `out_of_range` meets its contract: one test after the other is the definition's.
 use borrow.Author.Tests.{lt-ltb, le-ltb}
 use Rattle.folds.proofs.Bools.{not-ltb}
 use Rattle.weights.specs.Contexts.{outOfRange}

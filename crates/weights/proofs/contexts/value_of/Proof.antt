@@ -1,3 +1,4 @@
+-- `value_of` meets its contract: one test after the other is the definition's.
 use borrow.Author.Tests.{ne-eqb}
 use Rattle.weights.specs.Contexts.{valueOf}
 use Rattle.weights.proofs.contexts.value_of.Statement.{statement}

@@ -1,3 +1,4 @@
+-- `hand_on` meets its contract: each turn gives one role its share. Where x is 0, every share is.
 use native.Mathlib.Omega.{arith}
 use borrow.Author.Needs.{needs}
 use Prim.Native.Nat.{ℕ, _+_, _-_, _≤_, _<_}

@@ -1,3 +1,4 @@
+-- `own_weights` meets its contract: each turn copies one role's weight.
 use native.Mathlib.Omega.{arith}
 use borrow.Author.Needs.{needs}
 use Prim.Native.Nat.{ℕ, _+_, _*_, _-_, _≤_, _<_}

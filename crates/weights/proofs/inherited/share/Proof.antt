@@ -1,3 +1,4 @@
+-- `share` meets its contract: its test is the definition's.
 use native.Mathlib.Omega.{arith}
 use borrow.Author.Needs.{needs}
 use mathlib.Core.Path.{sym, _∙_}

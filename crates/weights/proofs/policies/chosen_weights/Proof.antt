@@ -2,17 +2,18 @@
 -- loop's body.
 use native.Mathlib.Omega.{arith}
 use borrow.Author.Needs.{needs}
-use Prim.Native.Nat.{ℕ, _+_, _-_, _*_, _/_, _≤_, _<_}
+use Prim.Native.Nat.{ℕ, _+_, _-_, _*_, _/_, _^_, _≤_, _<_}
 use mathlib.Core.Bool.{true, false, cond}
 use mathlib.Core.Path.{_≡_, refl, sym, _∙_}
 use mathlib.Core.Logic.{inl, inr}
 use mathlib.Core.List.{List}
-use lib.Dec.{eqb}
+use lib.Dec.{eqb, lit<}
 use lib.ListN.{length, getD, set, length-set, getD-replicate}
+use mir.Val.{Fits}
+use mir.Syntax.{w64}
 use Rattle.reader.specs.Fields.{policyRole, policyPermission, policyWeight, policyType, policyContext}
 use Rattle.reader.specs.Rules.{policiesBad}
 use Rattle.reader.proofs.Accepted.{PolicyFine, policy-fine}
-use Rattle.weights.specs.declared.ChosenWeights.{ChosenWeights}
 use Rattle.weights.specs.Weights.{anyType, typeOne}
 use Rattle.weights.specs.Setting.{inForceBy, firstOf, AreChosen}
 use Rattle.weights.proofs.Choice.{placed-none, placed-same, placed-more}
@@ -20,26 +21,37 @@ use Rattle.weights.proofs.policies.chosen_weights.Statement.{statement}
 use Rattle.weights.proofs.policies.chosen_weights.Tie as tie
 
 -- the loop's invariant: the weights of the policies that count among the first i
-record Turn (s : ℕ) (a : List ℕ) (f : ChosenWeights) (i : ℕ) : Type 0 where
+record Turn (s : ℕ) (a own inh : List ℕ) (i : ℕ) : Type 0 where
   within : i ≤ length a / 8
-  own-size : length (f .own) ≡ 128
-  inh-size : length (f .inh) ≡ 128
-  chosen : AreChosen s a i f
+  own-size : length own ≡ 128
+  inh-size : length inh ≡ 128
+  chosen : AreChosen s a i (record { own = own; inh = inh })
 
 abbrev Inv-loop : tie.InvT-loop
-Inv-loop a contexts f₀ i₀ i-end f i = Turn contexts a f i
+Inv-loop a contexts own₀ inh₀ i₀ i-end own inh i = Turn contexts a own inh i
 
 abbrev μ-loop : tie.MeasureT-loop
-μ-loop a contexts f₀ i₀ i-end f i = length a / 8 - i
+μ-loop a contexts own₀ inh₀ i₀ i-end own inh i = length a / 8 - i
+
+-- the places of a policy's bytes, of plain numbers
+module _ {n i : ℕ} (more : i < n / 8) where
+  inside : 8 * i < n
+  inside = omega arith
+
+  inside-at : (d : ℕ) → d < 8 → 8 * i + d < n
+  inside-at d h = omega arith
+
+  fits-at : n < 2 ^ 64 → (d : ℕ) → d < 8 → Fits w64 (8 * i + d)
+  fits-at fits d h = omega arith
 
 -- one turn, of plain values
-module _ {s : ℕ} {a : List ℕ} {f : ChosenWeights} {i : ℕ} (turn : Turn s a f i) (ok : policiesBad 8 16 a ≡ false)
+module _ {s : ℕ} {a own inh : List ℕ} {i : ℕ} (turn : Turn s a own inh i) (ok : policiesBad 8 16 a ≡ false)
     (l : i < length a / 8) where
   weighs : (j : ℕ) → j < i → 1 ≤ policyWeight a j
   weighs j m = let w = turn .within in policy-fine 8 16 a j ok (omega arith) .weight-pos
 
   -- policy i is not active
-  skipped : inForceBy s (policyContext a i) ≡ false → Turn s a f (i + 1)
+  skipped : inForceBy s (policyContext a i) ≡ false → Turn s a own inh (i + 1)
   skipped off =
       record {
         within = omega arith;
@@ -52,23 +64,24 @@ module _ {s : ℕ} {a : List ℕ} {f : ChosenWeights} {i : ℕ} (turn : Turn s a
       }
 
   -- it is active; k is its place
-  counted : {k y z v : ℕ} → inForceBy s (policyContext a i) ≡ true →
-      k ≡ 8 * policyPermission a i + policyRole a i → k < 128 →
-      y ≡ firstOf (getD (f .own) k 0) (policyWeight a i) → v ≡ cond (eqb (policyType a i) 1) (policyWeight a i) 0 →
-      z ≡ firstOf (getD (f .inh) k 0) v → Turn s a record { own = set (f .own) k y; inh = set (f .inh) k z } (i + 1)
-  counted on at-k small at-y at-v at-z =
+  counted : {k v : ℕ} {own′ inh′ : List ℕ} → inForceBy s (policyContext a i) ≡ true →
+      k ≡ 8 * policyPermission a i + policyRole a i → k < 128 → v ≡ cond (eqb (policyType a i) 1) (policyWeight a i) 0 →
+      own′ ≡ set own k (firstOf (getD own k 0) (policyWeight a i)) →
+      inh′ ≡ set inh k (firstOf (getD inh k 0) v) → Turn s a own′ inh′ (i + 1)
+  counted on at-k small at-v own-is inh-is =
       let role = policy-fine 8 16 a i ok l .role in
       let m = turn .own-size in
       let n = turn .inh-size in
-      record {
+      rw (own-is, inh-is)
+      (record {
         within = omega arith;
         own-size = rw length-set m;
         inh-size = rw length-set n;
         chosen = record {
-          any = placed-more (inForceBy s) anyType a i weighs on role at-k (omega arith) refl at-y (turn .chosen .any);
-          one = placed-more (inForceBy s) typeOne a i weighs on role at-k (omega arith) at-v at-z (turn .chosen .one);
+          any = placed-more (inForceBy s) anyType a i weighs on role at-k (omega arith) refl refl (turn .chosen .any);
+          one = placed-more (inForceBy s) typeOne a i weighs on role at-k (omega arith) at-v refl (turn .chosen .one);
         };
-      }
+      })
 
 -- the entry
 abbrev Start : Type 0
@@ -84,16 +97,24 @@ module _ (s : Start) where
   ok : policiesBad 8 16 a ≡ false
   ok = s .pre
 
+  size : length a < 2 ^ 64
+  size = s .good .0 .0
+
 -- what a run knows in the loop's body
 record Here : Type 0 where
   start : Start
-  f : ChosenWeights
+  own : List ℕ
+  inh : List ℕ
   i : ℕ
-  turn : Turn (contexts start) (a start) f i
+  turn : Turn (contexts start) (a start) own inh i
   more : i < length (a start) / 8
 
-fine : (h : Here) → PolicyFine 8 16 (a (h .start)) (h .i)
-fine h = policy-fine 8 16 (a (h .start)) (h .i) (ok (h .start)) (h .more)
+module _ (h : Here) where
+  fine : PolicyFine 8 16 (a (h .start)) (h .i)
+  fine = policy-fine 8 16 (a (h .start)) (h .i) (ok (h .start)) (h .more)
+
+  byte-fits : (d : ℕ) → d < 8 → Fits w64 (8 * h .i + d)
+  byte-fits = fits-at (h .more) (size (h .start))
 
 abbrev at-loop : tie.At-loop Inv-loop μ-loop → Start
 at-loop c = c .before .before
@@ -101,19 +122,54 @@ at-loop c = c .before .before
 abbrev in-turn : tie.In-loop Inv-loop μ-loop → Here
 in-turn c =
     let loop = c .before .loop in
-    record { start = at-loop (c .before); f = loop .f; i = loop .i; turn = loop .inv; more = c .loop-test .taken }
+    record {
+      start = at-loop (c .before);
+      own = loop .own;
+      inh = loop .inh;
+      i = loop .i;
+      turn = loop .inv;
+      more = c .loop-test .taken;
+    }
+
+abbrev at-read1 : tie.After-shared-slice-known2 Inv-loop μ-loop → Here
+at-read1 c = in-turn (c .before)
 
 abbrev at-test : tie.After-in-force Inv-loop μ-loop → Here
-at-test c = in-turn (c .before .before)
+at-test c = at-read1 (c .before)
 
-abbrev at-read : tie.After-shared-slice-known4 Inv-loop μ-loop → Here
-at-read c = at-test (c .before .before .before)
+abbrev active : tie.Then1 Inv-loop μ-loop → Here
+active c = at-test (c .before)
 
-abbrev at-own : tie.After-first-of Inv-loop μ-loop → tie.After-place-of Inv-loop μ-loop
-at-own c = c .before .before .before
+abbrev at-read2 : tie.After-shared-slice-known3 Inv-loop μ-loop → Here
+at-read2 c = active (c .before)
 
-abbrev at-inh : tie.After-first-of2 Inv-loop μ-loop → tie.After-place-of Inv-loop μ-loop
-at-inh c = at-own (c .before .before .before .before)
+abbrev at-read3 : tie.After-shared-slice-known4 Inv-loop μ-loop → Here
+at-read3 c = at-read2 (c .before)
+
+-- its place in the lists is known
+record Placing : Type 0 where
+  here : Here
+  place : ℕ
+  small : place < 128
+
+abbrev at-place : tie.After-place-of Inv-loop μ-loop → Placing
+at-place c =
+    record { here = at-read3 (c .before); place = c .place-of .result; small = c .place-of .ensures .1 }
+
+abbrev at-read4 : tie.After-shared-slice-known5 Inv-loop μ-loop → Placing
+at-read4 c = at-place (c .before)
+
+abbrev at-own : tie.After-own Inv-loop μ-loop → Placing
+at-own c = at-read4 (c .before)
+
+abbrev at-inh : tie.After-inh Inv-loop μ-loop → Placing
+at-inh c = at-own (c .before .before)
+
+abbrev at-read5 : tie.After-shared-slice-known6 Inv-loop μ-loop → Placing
+at-read5 c = at-inh (c .before)
+
+abbrev at-type : tie.After-type-one-weight Inv-loop μ-loop → Placing
+at-type c = at-read5 (c .before)
 
 loop-holds : tie.Need-loop-holds Inv-loop μ-loop
 loop-holds c = record {
@@ -126,76 +182,50 @@ loop-holds c = record {
   };
 }
 
-mul-in-force : tie.Need-mul-in-force Inv-loop μ-loop
-mul-in-force c = search needs
+mul-at : tie.Need-mul-at Inv-loop μ-loop
+mul-at c = search needs
 
 add-in-force : tie.Need-add-in-force Inv-loop μ-loop
-add-in-force c = search needs
+add-in-force c = byte-fits (in-turn c) 4 (lit< tt)
 
 shared-slice-read-in-force : tie.Need-shared-slice-read-in-force Inv-loop μ-loop
-shared-slice-read-in-force c = search needs
+shared-slice-read-in-force c = inside-at (at-read1 c .more) 4 (lit< tt)
 
 in-force-requires : tie.Need-in-force-requires Inv-loop μ-loop
-in-force-requires c κs = fine (in-turn (c .before)) .context
-
-mul-place-of : tie.Need-mul-place-of Inv-loop μ-loop
-mul-place-of c = search needs
+in-force-requires c κs = fine (at-read1 c) .context
 
 add-place-of : tie.Need-add-place-of Inv-loop μ-loop
-add-place-of c = search needs
+add-place-of c = byte-fits (active c) 1 (lit< tt)
 
 shared-slice-read-place-of : tie.Need-shared-slice-read-place-of Inv-loop μ-loop
-shared-slice-read-place-of c = search needs
-
-mul-place-of-2 : tie.Need-mul-place-of-2 Inv-loop μ-loop
-mul-place-of-2 c = search needs
+shared-slice-read-place-of c = inside-at (at-read2 c .more) 1 (lit< tt)
 
 shared-slice-read-place-of-2 : tie.Need-shared-slice-read-place-of-2 Inv-loop μ-loop
-shared-slice-read-place-of-2 c = search needs
+shared-slice-read-place-of-2 c = inside (at-read3 c .more)
 
 place-of-requires : tie.Need-place-of-requires Inv-loop μ-loop
-place-of-requires c κs =
-    let h = at-read c in
-    (fine h .permission, fine h .role)
-
-mul-weight : tie.Need-mul-weight Inv-loop μ-loop
-mul-weight c = search needs
+place-of-requires c κs = let f = fine (at-read3 c) in (f .permission, f .role)
 
 add-weight : tie.Need-add-weight Inv-loop μ-loop
-add-weight c = search needs
+add-weight c = byte-fits (at-place c .here) 2 (lit< tt)
 
 shared-slice-read-weight : tie.Need-shared-slice-read-weight Inv-loop μ-loop
-shared-slice-read-weight c = search needs
+shared-slice-read-weight c = inside-at (at-read4 c .here .more) 2 (lit< tt)
 
-element-copy-out-first-of : tie.Need-element-copy-out-first-of Inv-loop μ-loop
-element-copy-out-first-of c = c .before .place-of .ensures .1
-
-first-of-requires : tie.Need-first-of-requires Inv-loop μ-loop
-first-of-requires c κs = search needs
-
-element-write-f : tie.Need-element-write-f Inv-loop μ-loop
-element-write-f c = at-own c .place-of .ensures .1
-
-element-copy-out-first-of-2 : tie.Need-element-copy-out-first-of-2 Inv-loop μ-loop
-element-copy-out-first-of-2 c = at-own c .place-of .ensures .1
-
-mul-type-one-weight : tie.Need-mul-type-one-weight Inv-loop μ-loop
-mul-type-one-weight c = search needs
+keep-first-requires : tie.Need-keep-first-requires Inv-loop μ-loop
+keep-first-requires c κs = at-own c .small
 
 add-type-one-weight : tie.Need-add-type-one-weight Inv-loop μ-loop
-add-type-one-weight c = search needs
+add-type-one-weight c = byte-fits (at-inh c .here) 3 (lit< tt)
 
 shared-slice-read-type-one-weight : tie.Need-shared-slice-read-type-one-weight Inv-loop μ-loop
-shared-slice-read-type-one-weight c = search needs
+shared-slice-read-type-one-weight c = inside-at (at-read5 c .here .more) 3 (lit< tt)
 
 type-one-weight-requires : tie.Need-type-one-weight-requires Inv-loop μ-loop
 type-one-weight-requires c κs = search needs
 
-first-of-requires-2 : tie.Need-first-of-requires-2 Inv-loop μ-loop
-first-of-requires-2 c κs = search needs
-
-element-write-f-2 : tie.Need-element-write-f-2 Inv-loop μ-loop
-element-write-f-2 c = at-inh c .place-of .ensures .1
+keep-first-requires-2 : tie.Need-keep-first-requires-2 Inv-loop μ-loop
+keep-first-requires-2 c κs = at-type c .small
 
 add-i : tie.Need-add-i Inv-loop μ-loop
 add-i c = search needs
@@ -208,12 +238,12 @@ loop-again c =
     let h = at-test (c .before) in
     let test = sym (c .before .in-force .ensures) in
     elim (c .if1 .came) [
-      | inl (on, _, _, place, _, _, own, _, _, one, inh, same) ↦
+      | inl (on, _, _, place, _, _, own, _, _, one, inh, own-is, inh-is) ↦
           let (is, small) = place .ensures in
-          rw same
-          (counted (h .turn) (ok (h .start)) (h .more) (test ∙ on .taken) is small
-          (own .ensures) (one .ensures) (inh .ensures))
-      | inr (off, same) ↦ rw same (skipped (h .turn) (ok (h .start)) (h .more) (test ∙ off .left))
+          counted (h .turn) (ok (h .start)) (h .more) (test ∙ on .taken) is small (one .ensures)
+          (own-is ∙ own .ensures) (inh-is ∙ inh .ensures)
+      | inr (off, own-is, inh-is) ↦
+          rw (own-is, inh-is) (skipped (h .turn) (ok (h .start)) (h .more) (test ∙ off .left))
     ]
 
 returns : tie.Need-returns Inv-loop μ-loop
@@ -229,29 +259,21 @@ chosen-weights-spec =
     Inv-loop
     μ-loop
     loop-holds
-    mul-in-force
+    mul-at
     add-in-force
     shared-slice-read-in-force
     in-force-requires
-    mul-place-of
     add-place-of
     shared-slice-read-place-of
-    mul-place-of-2
     shared-slice-read-place-of-2
     place-of-requires
-    mul-weight
     add-weight
     shared-slice-read-weight
-    element-copy-out-first-of
-    first-of-requires
-    element-write-f
-    element-copy-out-first-of-2
-    mul-type-one-weight
+    keep-first-requires
     add-type-one-weight
     shared-slice-read-type-one-weight
     type-one-weight-requires
-    first-of-requires-2
-    element-write-f-2
+    keep-first-requires-2
     add-i
     loop-less
     loop-again

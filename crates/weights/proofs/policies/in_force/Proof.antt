@@ -1,3 +1,4 @@
+-- `in_force` meets its contract: 255 holds, another number is at most 15 and asked of the set.
 use mathlib.Core.Logic.{⊎-elim}
 use borrow.Author.Tests.{ne-eqb}
 use native.Mathlib.Omega.{arith}

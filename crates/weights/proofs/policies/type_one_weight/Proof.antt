@@ -1,3 +1,4 @@
+-- `type_one_weight` meets its contract: its test is the definition's.
 use borrow.Author.Tests.{ne-eqb}
 use Rattle.weights.proofs.policies.type_one_weight.Statement.{statement}
 use Rattle.weights.proofs.policies.type_one_weight.Tie as tie

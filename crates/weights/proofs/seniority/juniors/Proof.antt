@@ -1,22 +1,51 @@
-use Prim.Native.Nat.{ℕ, _≤_, _<_, _-_, _+_}
+-- `juniors` meets its contract: in turn k the juniors of the k highest roles are there.
+use Prim.Native.Nat.{ℕ, _+_, _-_, _≤_, _<_}
+use mathlib.Core.Bool.{false}
 use mathlib.Core.Path.{_≡_, refl}
-use lib.ListN.{length, getD, length-set}
+use mathlib.Core.List.{List}
+use lib.ListN.{length, getD, set, length-set}
 use Rattle.folds.specs.Sets.{inSet}
+use Rattle.folds.specs.Below.{anyBelow}
+use Rattle.reader.specs.Tables.{hierarchy, recordCount}
+use Rattle.reader.specs.Rules.{hierarchyBad}
 use Rattle.weights.proofs.Steps.{juniors-more}
 use Rattle.weights.specs.Seniority.{seniorTo}
+use Rattle.weights.specs.Setting.{Juniors, nextJunior}
 use native.Mathlib.Omega.{arith}
 use borrow.Author.Needs.{needs}
 use Rattle.weights.proofs.seniority.juniors.Statement.{statement}
 use Rattle.weights.proofs.seniority.juniors.Tie as tie
 
+-- the loop's invariant: the juniors of the roles from 8 - k on are known
+record Turn (h known : List ℕ) (k : ℕ) : Type 0 where
+  within : k ≤ 8
+  size : length known ≡ 8
+  role : (s j : ℕ) → 8 ≤ s + k → s < 8 → inSet (getD known s 0) j ≡ seniorTo h s j
+
 abbrev Inv-loop : tie.InvT-loop
-Inv-loop h known₀ k₀ known k = (k ≤ 8) × (length known ≡ 8) × ((s j : ℕ) → 8 ≤ s + k → s < 8 → inSet (getD known s 0) j ≡ seniorTo h s j)
+Inv-loop h known₀ k₀ known k = Turn h known k
 
 abbrev μ-loop : tie.MeasureT-loop
 μ-loop h known₀ k₀ known k = 8 - k
 
+-- a turn, of plain values
+module _ {h known : List ℕ} {k : ℕ} (turn : Turn h known k) where
+  again : (x : ℕ) → k < 8 → hierarchyBad 8 h ≡ false →
+      ((j : ℕ) → inSet x j ≡ anyBelow (recordCount hierarchy h) (nextJunior h known (7 - k) j)) →
+      Turn h (set known (7 - k) x) (k + 1)
+  again x more ok new =
+      let n = turn .size in
+      record {
+        within = omega arith;
+        size = rw length-set n;
+        role = juniors-more h known k x more n ok (turn .role) new;
+      }
+
+  finished : 8 ≤ k → Juniors h known
+  finished past = record { role = λ s j l. turn .role s j (omega arith) l }
+
 loop-holds : tie.Need-loop-holds Inv-loop μ-loop
-loop-holds c = (search needs, refl, λ s j l m. absurd (omega arith))
+loop-holds c = record { within = omega arith; size = refl; role = λ s j l m. absurd (omega arith) }
 
 sub-s : tie.Need-sub-s Inv-loop μ-loop
 sub-s c = search needs
@@ -37,10 +66,14 @@ loop-less : tie.Need-loop-less Inv-loop μ-loop
 loop-less c = search needs
 
 loop-again : tie.Need-loop-again Inv-loop μ-loop
-loop-again c = let l = c .before .before .loop in (search needs, rw length-set (l .inv .1), juniors-more (c .before .before .before .before .args .h .now) (l .known) (l .k) _ (c .before .loop-test .taken) (l .inv .1) (c .before .before .before .before .pre) (l .inv .2) (c .juniors-of .ensures))
+loop-again c =
+    let turn = c .before in
+    let start = turn .before .before .before in
+    let made = c .juniors-of in
+    again (turn .before .loop .inv) (made .result) (turn .loop-test .taken) (start .pre) (made .ensures)
 
 returns : tie.Need-returns Inv-loop μ-loop
-returns c = let l = c .before .loop in let t : 8 ≤ l .k = omega arith in record { role = λ s j m. l .inv .2 s j (omega arith) m }
+returns c = finished (c .before .loop .inv) (c .loop-test .left)
 
 pub juniors-spec : {M : Type 1} → statement M
 juniors-spec =

@@ -1,3 +1,4 @@
+-- `bit` meets its contract: 1 shifted by r stays below 2 ^ 32.
 use Rattle.folds.proofs.Sets.{one-shifted}
 use borrow.Author.Needs.{needs}
 use Rattle.weights.proofs.sets.bit.Statement.{statement}

@@ -1,3 +1,4 @@
+-- `in_set` meets its contract: shifting by r divides by 2 ^ r.
 use mathlib.Core.Path.{refl}
 use Rattle.folds.specs.Sets.{inSet}
 use borrow.Author.Needs.{needs}

@@ -1,3 +1,4 @@
+-- `role_bit` meets its contract: 1 shifted by r stays below 2 ^ 8.
 use Rattle.folds.proofs.Sets.{one-shifted}
 use borrow.Author.Needs.{needs}
 use Rattle.weights.proofs.sets.role_bit.Statement.{statement}

@@ -1,3 +1,4 @@
+-- `wide_bit` meets its contract: 1 shifted by j stays below 2 ^ 64.
 use Rattle.folds.proofs.Sets.{one-shifted}
 use borrow.Author.Needs.{needs}
 use Rattle.weights.proofs.sets.wide_bit.Statement.{statement}
