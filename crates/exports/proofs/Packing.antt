@@ -1,5 +1,5 @@
 -- A number carries the answer that it was packed from.
-use Prim.Native.Nat.{ℕ, _+_, _*_, _/_, _%_, _<_}
+use Prim.Native.Nat.{_+_, _*_, _/_, _%_, _<_}
 use mathlib.Core.Path.{_≡_}
 use native.Mathlib.Omega.{arith}
 use Rattle.reader.specs.declared.Answer.{Answer}

@@ -1,5 +1,5 @@
 -- `release_report` meets its contract: the number carries the report's answer, so the promises of one are the other's.
-use mathlib.Core.Path.{_≡_, ap, _∙_}
+use mathlib.Core.Path.{ap, _∙_}
 use mir.Val.{Fits}
 use mir.Syntax.{w8}
 use Rattle.exports.specs.Packed.{packed, unpacked}

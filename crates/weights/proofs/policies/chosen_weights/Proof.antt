@@ -131,20 +131,20 @@ in-turn c =
       more = c .loop-test .taken;
     }
 
-abbrev at-read1 : tie.After-shared-slice-known2 Inv-loop μ-loop → Here
-at-read1 c = in-turn (c .before)
+abbrev at-context : tie.After-shared-slice-known2 Inv-loop μ-loop → Here
+at-context c = in-turn (c .before)
 
 abbrev at-test : tie.After-in-force Inv-loop μ-loop → Here
-at-test c = at-read1 (c .before)
+at-test c = at-context (c .before)
 
 abbrev active : tie.Then1 Inv-loop μ-loop → Here
 active c = at-test (c .before)
 
-abbrev at-read2 : tie.After-shared-slice-known3 Inv-loop μ-loop → Here
-at-read2 c = active (c .before)
+abbrev at-permission : tie.After-shared-slice-known3 Inv-loop μ-loop → Here
+at-permission c = active (c .before)
 
-abbrev at-read3 : tie.After-shared-slice-known4 Inv-loop μ-loop → Here
-at-read3 c = at-read2 (c .before)
+abbrev at-role : tie.After-shared-slice-known4 Inv-loop μ-loop → Here
+at-role c = at-permission (c .before)
 
 -- its place in the lists is known
 record Placing : Type 0 where
@@ -154,22 +154,22 @@ record Placing : Type 0 where
 
 abbrev at-place : tie.After-place-of Inv-loop μ-loop → Placing
 at-place c =
-    record { here = at-read3 (c .before); place = c .place-of .result; small = c .place-of .ensures .1 }
+    record { here = at-role (c .before); place = c .place-of .result; small = c .place-of .ensures .1 }
 
-abbrev at-read4 : tie.After-shared-slice-known5 Inv-loop μ-loop → Placing
-at-read4 c = at-place (c .before)
+abbrev at-weight : tie.After-shared-slice-known5 Inv-loop μ-loop → Placing
+at-weight c = at-place (c .before)
 
 abbrev at-own : tie.After-own Inv-loop μ-loop → Placing
-at-own c = at-read4 (c .before)
+at-own c = at-weight (c .before)
 
 abbrev at-inh : tie.After-inh Inv-loop μ-loop → Placing
 at-inh c = at-own (c .before .before)
 
-abbrev at-read5 : tie.After-shared-slice-known6 Inv-loop μ-loop → Placing
-at-read5 c = at-inh (c .before)
+abbrev at-policy-type : tie.After-shared-slice-known6 Inv-loop μ-loop → Placing
+at-policy-type c = at-inh (c .before)
 
-abbrev at-type : tie.After-type-one-weight Inv-loop μ-loop → Placing
-at-type c = at-read5 (c .before)
+abbrev at-given : tie.After-type-one-weight Inv-loop μ-loop → Placing
+at-given c = at-policy-type (c .before)
 
 loop-holds : tie.Need-loop-holds Inv-loop μ-loop
 loop-holds c = record {
@@ -189,28 +189,28 @@ add-in-force : tie.Need-add-in-force Inv-loop μ-loop
 add-in-force c = byte-fits (in-turn c) 4 (lit< tt)
 
 shared-slice-read-in-force : tie.Need-shared-slice-read-in-force Inv-loop μ-loop
-shared-slice-read-in-force c = inside-at (at-read1 c .more) 4 (lit< tt)
+shared-slice-read-in-force c = inside-at (at-context c .more) 4 (lit< tt)
 
 in-force-requires : tie.Need-in-force-requires Inv-loop μ-loop
-in-force-requires c κs = fine (at-read1 c) .context
+in-force-requires c κs = fine (at-context c) .context
 
 add-place-of : tie.Need-add-place-of Inv-loop μ-loop
 add-place-of c = byte-fits (active c) 1 (lit< tt)
 
 shared-slice-read-place-of : tie.Need-shared-slice-read-place-of Inv-loop μ-loop
-shared-slice-read-place-of c = inside-at (at-read2 c .more) 1 (lit< tt)
+shared-slice-read-place-of c = inside-at (at-permission c .more) 1 (lit< tt)
 
 shared-slice-read-place-of-2 : tie.Need-shared-slice-read-place-of-2 Inv-loop μ-loop
-shared-slice-read-place-of-2 c = inside (at-read3 c .more)
+shared-slice-read-place-of-2 c = inside (at-role c .more)
 
 place-of-requires : tie.Need-place-of-requires Inv-loop μ-loop
-place-of-requires c κs = let f = fine (at-read3 c) in (f .permission, f .role)
+place-of-requires c κs = let f = fine (at-role c) in (f .permission, f .role)
 
 add-weight : tie.Need-add-weight Inv-loop μ-loop
 add-weight c = byte-fits (at-place c .here) 2 (lit< tt)
 
 shared-slice-read-weight : tie.Need-shared-slice-read-weight Inv-loop μ-loop
-shared-slice-read-weight c = inside-at (at-read4 c .here .more) 2 (lit< tt)
+shared-slice-read-weight c = inside-at (at-weight c .here .more) 2 (lit< tt)
 
 keep-first-requires : tie.Need-keep-first-requires Inv-loop μ-loop
 keep-first-requires c κs = at-own c .small
@@ -219,13 +219,13 @@ add-type-one-weight : tie.Need-add-type-one-weight Inv-loop μ-loop
 add-type-one-weight c = byte-fits (at-inh c .here) 3 (lit< tt)
 
 shared-slice-read-type-one-weight : tie.Need-shared-slice-read-type-one-weight Inv-loop μ-loop
-shared-slice-read-type-one-weight c = inside-at (at-read5 c .here .more) 3 (lit< tt)
+shared-slice-read-type-one-weight c = inside-at (at-policy-type c .here .more) 3 (lit< tt)
 
 type-one-weight-requires : tie.Need-type-one-weight-requires Inv-loop μ-loop
 type-one-weight-requires c κs = search needs
 
 keep-first-requires-2 : tie.Need-keep-first-requires-2 Inv-loop μ-loop
-keep-first-requires-2 c κs = at-type c .small
+keep-first-requires-2 c κs = at-given c .small
 
 add-i : tie.Need-add-i Inv-loop μ-loop
 add-i c = search needs

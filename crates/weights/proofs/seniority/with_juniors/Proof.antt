@@ -3,7 +3,6 @@ use Prim.Native.Nat.{ℕ}
 use mathlib.Core.Path.{ap}
 use lib.Bits.{bitOr}
 use lib.ListN.{getD}
-use borrow.Author.Needs.{needs}
 use Rattle.weights.proofs.seniority.with_juniors.Statement.{statement}
 use Rattle.weights.proofs.seniority.with_juniors.Tie as tie
 
