@@ -22,7 +22,8 @@ attribute number sum set a = cond (eqb a 0) number (cond (eqb a 1) sum (cond (eq
 -- condition j of clause i of the table K holds
 unfoldable pub conditionHolds : List ℕ → ℕ → ℕ → ℕ → ℕ → ℕ → Bool
 unfolding meets attribute
-conditionHolds k number sum set i j = meets (conditionOperator k i j) (attribute number sum set (conditionAttribute k i j)) (conditionValue k i j)
+conditionHolds k number sum set i j =
+    meets (conditionOperator k i j) (attribute number sum set (conditionAttribute k i j)) (conditionValue k i j)
 
 -- a clause holds if its n conditions hold
 unfoldable pub clauseHolds : List ℕ → ℕ → ℕ → ℕ → ℕ → Bool

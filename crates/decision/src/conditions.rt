@@ -28,28 +28,21 @@ fn attribute_of(n: u32, sum: u32, set: u8, a: u8) -> u32
     set as u32
 }
 
-fn wide(x: u8) -> u32
-    ensures { λ r. ⌜ r ≡ x ⌝ }
-{
-    x as u32
-}
-
 // Condition j of clause i.
 fn condition_holds(k: &[u8], i: usize, j: usize, n: u32, sum: u32, set: u8) -> bool
     requires { ⌜ (16 * i + 16 ≤ length (now k)) × (j < 4) ⌝ }
     ensures { λ r. ⌜ r ≡ conditionHolds (now (k .entry)) n sum set i j ⌝ }
 {
-    let x = attribute_of(n, sum, set, k[16 * i + 3 * j + 2]);
-    let value = wide(k[16 * i + 3 * j + 4]);
-    weights::operators::is_met(k[16 * i + 3 * j + 3], x, value)
+    let at = 16 * i + 3 * j;
+    let x = attribute_of(n, sum, set, k[at + 2]);
+    weights::operators::is_met(k[at + 3], x, k[at + 4] as u32)
 }
 
 fn clause_holds(k: &[u8], i: usize, n: u32, sum: u32, set: u8) -> bool
     requires { ⌜ (16 * i + 16 ≤ length (now k)) × (clauseLength (now k) i ≤ 4) ⌝ }
     ensures { λ r. ⌜ r ≡ clauseHolds (now (k .entry)) n sum set i ⌝ }
 {
-    let count = k[16 * i + 1];
-    for j in 0..count as usize {
+    for j in 0..k[16 * i + 1] as usize {
         if !condition_holds(k, i, j, n, sum, set) {
             return false;
         }

@@ -1,10 +1,10 @@
 // A group's entries and its attributes: refusals 12 to 16.
-use reader::bytes;
 ghost use mathlib.Core.Path.{_≡_};
 ghost use Prim.Native.Nat.{ℕ, _+_, _*_, _/_, _≤_, _<_};
 ghost use lib.ListN.{length, getD};
 ghost use Rattle.weights.specs.Acting.{mayActBy};
-ghost use Rattle.decision.specs.Groups.{entryCount, entryRole, sumOf, rolesOf, lengthRefused, someUnknown, standsBefore, someTwice, someIneligible, someWeightless};
+ghost use Rattle.decision.specs.Groups.{entryCount, entryRole, sumOf, rolesOf, lengthRefused, someUnknown};
+ghost use Rattle.decision.specs.Groups.{standsBefore, someTwice, someIneligible, someWeightless};
 
 // Inner: refusal 12.
 pub fn length_refused(g: &[u8]) -> bool
@@ -24,10 +24,11 @@ pub fn some_unknown(g: &[u8], users: usize, roles: u8) -> bool
     ensures { λ r. ⌜ r ≡ someUnknown users roles (now (g .entry)) ⌝ }
 {
     for i in 0..g.len() / 2 {
-        if users <= bytes::wide(g[2 * i]) {
+        let at = 2 * i;
+        if users <= g[at] as usize {
             return true;
         }
-        if roles <= g[2 * i + 1] {
+        if roles <= g[at + 1] {
             return true;
         }
     }
@@ -38,8 +39,9 @@ fn stands_before(g: &[u8], i: usize) -> bool
     requires { ⌜ 2 * i < length (now g) ⌝ }
     ensures { λ r. ⌜ r ≡ standsBefore (now (g .entry)) i ⌝ }
 {
+    let user = g[2 * i];
     for j in 0..i {
-        if g[2 * j] == g[2 * i] {
+        if g[2 * j] == user {
             return true;
         }
     }
@@ -64,12 +66,8 @@ pub fn some_ineligible(g: &[u8], users: &[u8], roles: u8) -> bool
     ensures { λ r. ⌜ r ≡ someIneligible (mayActBy roles (now (users .entry))) (now (g .entry)) ⌝ }
 {
     for i in 0..g.len() / 2 {
-        if !weights::acting::may_act(
-            users,
-            roles,
-            bytes::wide(g[2 * i]),
-            bytes::wide(g[2 * i + 1]),
-        ) {
+        let at = 2 * i;
+        if !weights::acting::may_act(users, roles, g[at] as usize, g[at + 1] as usize) {
             return true;
         }
     }
@@ -82,7 +80,7 @@ pub fn some_weightless(g: &[u8], w: [u8; 8]) -> bool
     ensures { λ r. ⌜ r ≡ someWeightless (λ k. getD w k 0) (now (g .entry)) ⌝ }
 {
     for i in 0..g.len() / 2 {
-        if w[bytes::wide(g[2 * i + 1])] == 0 {
+        if w[g[2 * i + 1] as usize] == 0 {
             return true;
         }
     }
@@ -99,12 +97,15 @@ pub fn entry_count(g: &[u8]) -> u32
 
 // Inner: the sum of the roles' weights.
 pub fn sum_of(g: &[u8], w: [u8; 8]) -> u32
-    requires { ⌜ (length (now g) ≤ 12) × ((i : ℕ) → i < entryCount (now g) → entryRole (now g) i < 8) × ((r : ℕ) → r < 8 → getD w r 0 ≤ 40) ⌝ }
+    requires { ⌜
+        (length (now g) ≤ 12) ×
+        ((i : ℕ) → i < entryCount (now g) → entryRole (now g) i < 8) ×
+        ((r : ℕ) → r < 8 → getD w r 0 ≤ 40) ⌝ }
     ensures { λ r. ⌜ (r ≡ sumOf (λ k. getD w k 0) (now (g .entry))) × (r ≤ 240) ⌝ }
 {
     let mut sum: u32 = 0;
     for i in 0..g.len() / 2 {
-        sum = sum + w[bytes::wide(g[2 * i + 1])] as u32;
+        sum = sum + w[g[2 * i + 1] as usize] as u32;
     }
     sum
 }

@@ -29,6 +29,22 @@ pub or-right : (a b : Bool) → (a || b) ≡ false → b ≡ false
 or-right true b h = absurd (false≢true (sym h))
 or-right false b h = h
 
+-- a conjunction whose first test fails or, that one met, its second; a disjunction whose first is met or its second
+pub and-not-first : {a : Bool} (b : Bool) → a ≡ false → (a && b) ≡ false
+and-not-first b h = rw h
+
+pub and-not-second : {a b : Bool} → a ≡ true → b ≡ false → (a && b) ≡ false
+and-not-second h k = rw (h, k)
+
+pub or-first : {a : Bool} (b : Bool) → a ≡ true → (a || b) ≡ true
+or-first b h = rw h
+
+pub or-second : {a b : Bool} → a ≡ false → b ≡ true → (a || b) ≡ true
+or-second h k = rw (h, k)
+
+pub or-neither : {a b : Bool} → a ≡ false → b ≡ false → (a || b) ≡ false
+or-neither h k = rw (h, k)
+
 pub or-either : (a b : Bool) → (a || b) ≡ true → (a ≡ true) ⊎ (b ≡ true)
 or-either true b h = inl refl
 or-either false b h = inr h

@@ -28,7 +28,9 @@ module _ (f : ℕ → List ℕ) where
   join-tail m zero h z = let e : m ≡ 0 = omega arith in rw e
   join-tail m (suc n) h z =
       ⊎-elim (λ q. rw q)
-      (λ l. rw (z n (le-of-suc-le-suc l) (omega arith), append-nil) (join-tail m n (le-of-suc-le-suc l) (λ i k j. z i k (omega arith))))
+      (λ l.
+      let k = le-of-suc-le-suc l in
+      rw (z n k (omega arith), append-nil) (join-tail m n k (λ i h j. z i h (omega arith))))
       (eq-or-lt-of-le h)
 
   -- the length is the sum of the lengths
@@ -54,4 +56,6 @@ stored w i v Q l inv e k m =
 -- two lists are written one behind the other
 pub sets-append : (l : List ℕ) (i : ℕ) (xs ys : List ℕ) → sets l i (xs ++ ys) ≡ sets (sets l i xs) (i + length xs) ys
 sets-append l i [] ys = rw add-zero
-sets-append l i (x ∷ xs) ys = sets-append (set l i x) (suc i) xs ys ∙ ap (λ k. sets (sets (set l i x) (suc i) xs) k ys) (omega arith)
+sets-append l i (x ∷ xs) ys =
+    let with = set l i x in
+    sets-append with (suc i) xs ys ∙ ap (λ k. sets (sets with (suc i) xs) k ys) (omega arith)

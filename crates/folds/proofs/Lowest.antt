@@ -73,7 +73,10 @@ pub lowest : (d r : ℕ) → 0 < r → r < 2 ^ d → Lowest d r (trailingZeros d
 unfolding trailingZeros
 lowest zero r h l = absurd (omega arith)
 lowest (suc d) r h l =
-    ⊎-elim (λ o. rw o (lowest-odd d r o)) (λ o. rw o (lowest-even d r _ h o (lowest d (r / 2) (omega arith) (omega arith)))) (odd-or-even r)
+    ⊎-elim
+    (λ o. rw o (lowest-odd d r o))
+    (λ o. rw o (lowest-even d r _ h o (lowest d (r / 2) (omega arith) (omega arith))))
+    (odd-or-even r)
 
 -- r & (r - 1) is r without it
 pub without-lowest : (d r t : ℕ) → Lowest d r t → (j : ℕ) → inSet (bitAnd r (r - 1)) j ≡ (inSet r j && not (eqb j t))

@@ -3,7 +3,8 @@ use Prim.Native.Nat.{ℕ, zero, suc, _+_, _*_, _<_, _≤_}
 use mathlib.Core.Bool.{Bool, true, false, cond}
 use mathlib.Core.Path.{_≡_, refl}
 use native.Mathlib.Numerals.{add-one}
-use native.Mathlib.Nat.{not-suc-le-zero, add-comm, zero-add, add-zero, add-suc, add-assoc, mul-one, mul-assoc, mul-pos, suc-mul, eq-or-lt-of-le, le-of-suc-le-suc}
+use native.Mathlib.Nat.{add-comm, zero-add, add-zero, add-suc, add-assoc, mul-one, mul-pos, suc-mul}
+use native.Mathlib.Nat.{not-suc-le-zero, eq-or-lt-of-le, le-of-suc-le-suc}
 use mathlib.Core.Logic.{⊎-elim}
 use native.Mathlib.Omega.{arith}
 use borrow.Author.Tests.{eq-eqb, ne-eqb}
@@ -31,14 +32,18 @@ module _ (f : ℕ → ℕ) where
   -- what the numbers below m add, and then the next n
   pub sum-split : (m n : ℕ) → sumBelow (m + n) f ≡ sumBelow m f + sumBelow n (λ i. f (m + i))
   unfolding sumBelow
-  sum-split m zero = rw (add-zero, add-zero)
+  sum-split m zero = rw (add-zero m, add-zero (sumBelow m f))
   sum-split m (suc n) = rw (add-suc, sum-split m n) (add-assoc (sumBelow m f) (sumBelow n (λ i. f (m + i))) (f (m + n)))
 
   -- a sum over fewer numbers is not larger
   pub sum-le-sum : (m n : ℕ) → m ≤ n → sumBelow m f ≤ sumBelow n f
   unfolding sumBelow
   sum-le-sum m zero h = let e : m ≡ 0 = omega arith in rw e (omega arith)
-  sum-le-sum m (suc n) h = ⊎-elim (λ q. rw q (omega arith)) (λ l. let k = sum-le-sum m n (le-of-suc-le-suc l) in omega arith) (eq-or-lt-of-le h)
+  sum-le-sum m (suc n) h =
+      ⊎-elim
+      (λ q. rw q (omega arith))
+      (λ l. let k = sum-le-sum m n (le-of-suc-le-suc l) in omega arith)
+      (eq-or-lt-of-le h)
 
   -- a sum of numbers that are at most c
   pub sum-le : (c n : ℕ) → ((i : ℕ) → i < n → f i ≤ c) → sumBelow n f ≤ n * c
@@ -61,7 +66,9 @@ module _ (f : ℕ → ℕ) where
   sum-tail m zero h z = let e : m ≡ 0 = omega arith in rw e
   sum-tail m (suc n) h z =
       ⊎-elim (λ q. rw q)
-      (λ l. rw (z n (le-of-suc-le-suc l) (omega arith), add-zero) (sum-tail m n (le-of-suc-le-suc l) (λ i k j. z i k (omega arith))))
+      (λ l.
+      let k = le-of-suc-le-suc l in
+      rw (z n k (omega arith), add-zero) (sum-tail m n k (λ i h j. z i h (omega arith))))
       (eq-or-lt-of-le h)
 
   -- one number, and the others
@@ -71,7 +78,9 @@ module _ (f : ℕ → ℕ) where
   sum-pick (suc n) j l =
       split l
       (λ q. rw (q, eq-eqb n n refl, add-zero, sum-others n) (add-comm (sumBelow n f) (f n)))
-      (λ m. rw (sum-pick n j m, ne-eqb n j (λ q. omega arith)) (add-assoc (f j) (sumBelow n (λ k. cond (eqb k j) 0 (f k))) (f n)))
+      (λ m.
+      let others = sumBelow n (λ k. cond (eqb k j) 0 (f k)) in
+      rw (sum-pick n j m, ne-eqb n j (λ q. omega arith)) (add-assoc (f j) others (f n)))
     where
       sum-others : (n : ℕ) → sumBelow n (λ k. cond (eqb k n) 0 (f k)) ≡ sumBelow n f
       sum-others n = below n n (omega arith)
@@ -79,20 +88,6 @@ module _ (f : ℕ → ℕ) where
           below : (m n : ℕ) → m ≤ n → sumBelow m (λ k. cond (eqb k n) 0 (f k)) ≡ sumBelow m f
           below zero n h = refl
           below (suc m) n h = rw (below m n (omega arith), ne-eqb m n (λ q. omega arith))
-
-  pub product-none : productBelow 0 f ≡ 1
-  unfolding productBelow
-  product-none = refl
-
-  pub product-more : (n : ℕ) → productBelow (n + 1) f ≡ productBelow n f * f n
-  unfolding productBelow
-  product-more n = rw add-one
-
-  pub product-split : (m n : ℕ) → productBelow (m + n) f ≡ productBelow m f * productBelow n (λ i. f (m + i))
-  unfolding productBelow
-  product-split m zero = rw (add-zero, mul-one)
-  product-split m (suc n) =
-      rw (add-suc, product-split m n) (mul-assoc (productBelow m f) (productBelow n (λ i. f (m + i))) (f (m + n)))
 
   pub product-pos : (n : ℕ) → ((i : ℕ) → i < n → 0 < f i) → 0 < productBelow n f
   unfolding productBelow

@@ -1,9 +1,10 @@
--- Laws of the sets of small numbers: their members, unions and intersections, and the set of those of which a test holds.
+-- Laws of the sets of small numbers: their members, unions and intersections, and the set of those that pass a test.
 use Prim.Native.Nat.{ℕ, zero, suc, _+_, _*_, _/_, _%_, _^_, _<_, _≤_}
 use mathlib.Core.Bool.{Bool, true, false, _&&_, _||_, not, cond, and-true, and-false, or-false}
 use mathlib.Core.Path.{_≡_, refl, sym, ap, ap₂, _∙_}
 use native.Mathlib.Numerals.{add-one, one-add}
-use native.Mathlib.Nat.{add-comm, one-mul, zero-mul, div-eq-of-lt, div-div-eq-div-mul, mod-one, mod-eq-of-lt, pow-succ', le-refl, lt-of-lt-of-le, lt-of-le-of-lt, lt-of-not-le, not-suc-le-zero}
+use native.Mathlib.Nat.{add-comm, one-mul, zero-mul, div-eq-of-lt, div-div-eq-div-mul, mod-one, mod-eq-of-lt, pow-succ'}
+use native.Mathlib.Nat.{le-refl, lt-of-lt-of-le, lt-of-le-of-lt, lt-of-not-le, not-suc-le-zero}
 use native.Mathlib.Omega.{arith}
 use lib.Dec.{ltb, eqb, eqb·suc-suc, eqb·zero-suc, eqb·suc-zero, lit<}
 use lib.Pow.{pow-pos, pow-mono, shl-exact, mod-pow-add}
@@ -104,7 +105,7 @@ module _ (p : ℕ → Bool) where
   set-none = sum-none (λ r. cond (p r) (2 ^ r) 0)
 
   -- one further, 2 ^ n is added where p holds of n
-  pub set-more : (n : ℕ) → setBelow (n + 1) p ≡ setBelow n p + cond (p n) (2 ^ n) 0
+  set-more : (n : ℕ) → setBelow (n + 1) p ≡ setBelow n p + cond (p n) (2 ^ n) 0
   unfolding setBelow
   set-more n = sum-more (λ r. cond (p r) (2 ^ r) 0) n
 
@@ -123,7 +124,9 @@ module _ (p : ℕ → Bool) where
 
   -- one further, the union is taken with n where p holds of n
   pub set-or : (n : ℕ) → setBelow (n + 1) p ≡ bitOr (setBelow n p) (cond (p n) (2 ^ n) 0)
-  set-or n = rw (add-one, set-above n, shifted (p n) n) (sym (or-shifted-r (cond (p n) 1 0) n (setBelow n p) (set-lt n)))
+  set-or n =
+      rw (add-one, set-above n, shifted (p n) n)
+      (sym (or-shifted-r (cond (p n) 1 0) n (setBelow n p) (set-lt n)))
 
   -- a number below n is in the set exactly when p holds of it
   pub in-set : (n r : ℕ) → r < n → inSet (setBelow n p) r ≡ p r
@@ -137,11 +140,12 @@ module _ (p : ℕ → Bool) where
   pub ones-set : (n : ℕ) → ones (setBelow n p) ≡ countBelow n p
   ones-set zero = rw (set-none, count-none) (ones-bit false)
   ones-set (suc n) =
-      rw (set-above n, ones-cat n (cond (p n) 1 0) (setBelow n p) (set-lt n), ones-bit, ones-set n, ← add-one n, count-more)
+      let joined = ones-cat n (cond (p n) 1 0) (setBelow n p) (set-lt n) in
+      rw (set-above n, joined, ones-bit, ones-set n, ← add-one n, count-more)
       (add-comm (cond (p n) 1 0) (countBelow n p))
 
 -- tests that agree below n have the same set
-pub set-same : (p q : ℕ → Bool) (n : ℕ) → ((i : ℕ) → i < n → p i ≡ q i) → setBelow n p ≡ setBelow n q
+set-same : (p q : ℕ → Bool) (n : ℕ) → ((i : ℕ) → i < n → p i ≡ q i) → setBelow n p ≡ setBelow n q
 unfolding setBelow
 set-same p q n h = sum-same (λ r. cond (p r) (2 ^ r) 0) (λ r. cond (q r) (2 ^ r) 0) n (λ i l. rw (h i l))
 
@@ -164,7 +168,9 @@ unfolding contains
 contains-and s v h =
     let t : ℕ → Bool = λ r. not (inSet v r) || inSet s r in
     same-test _ _
-    (λ e. all-each t 32 (λ r l. held (inSet s r) (inSet v r) (sym (in-and s v r) ∙ ap (λ x. inSet x r) (eqb-true _ _ e))))
+    (λ e.
+    all-each t 32
+    (λ r l. held (inSet s r) (inSet v r) (sym (in-and s v r) ∙ ap (λ x. inSet x r) (eqb-true _ _ e))))
     (λ e. eq-eqb _ _
     (same-set 32 (bitAnd s v) v (lt-of-le-of-lt (and-le-r s v) h) h
     (λ r l. in-and s v r ∙ kept (inSet s r) (inSet v r) (all-at t 32 e r l))))
@@ -190,8 +196,10 @@ lt-power (suc n) = omega (arith, lt-power n)
 pub or-assoc : (a b c : ℕ) → bitOr (bitOr a b) c ≡ bitOr a (bitOr b c)
 or-assoc a b c =
     let h = lt-power (a + b + c) in
-    same-set (a + b + c) (bitOr (bitOr a b) c) (bitOr a (bitOr b c)) (omega (arith, or-add-and (bitOr a b) c, or-add-and a b))
-    (omega (arith, or-add-and a (bitOr b c), or-add-and b c)) (λ r l. simp (in-or, mathlib.Core.Bool.or-assoc))
+    same-set (a + b + c) (bitOr (bitOr a b) c) (bitOr a (bitOr b c))
+    (omega (arith, or-add-and (bitOr a b) c, or-add-and a b))
+    (omega (arith, or-add-and a (bitOr b c), or-add-and b c))
+    (λ r l. simp (in-or, mathlib.Core.Bool.or-assoc))
 
 -- a set with one number more
 pub in-added : (s k r : ℕ) → inSet (bitOr s (2 ^ k)) r ≡ (inSet s r || eqb k r)
@@ -200,18 +208,31 @@ in-added s k r = in-or s (2 ^ k) r ∙ ap (λ (b : Bool). inSet s r || b) (in-on
 -- what is in the set of those below n of which p holds
 pub in-below : (p : ℕ → Bool) (n r : ℕ) → inSet (setBelow n p) r ≡ (ltb r n && p r)
 in-below p n r =
-    ⊎-elim (λ e. rw e (in-set p n r (ltb-true r n e))) (λ e. rw e (in-set-high n (setBelow n p) r (set-lt p n) (ltb-false r n e)))
+    ⊎-elim
+    (λ e. rw e (in-set p n r (ltb-true r n e)))
+    (λ e. rw e (in-set-high n (setBelow n p) r (set-lt p n) (ltb-false r n e)))
     (met-or-not (ltb r n))
 
 -- two sets of numbers below n have a common member exactly where their meet isn't empty
-pub meet-some : (n a b : ℕ) → a < 2 ^ n → b < 2 ^ n → not (eqb (bitAnd a b) 0) ≡ anyBelow n (λ r. inSet a r && inSet b r)
+pub meet-some : (n a b : ℕ) → a < 2 ^ n → b < 2 ^ n →
+    not (eqb (bitAnd a b) 0) ≡ anyBelow n (λ r. inSet a r && inSet b r)
 meet-some n a b ha hb =
     ⊎-elim
-    (λ e. rw e (sym (any-each (λ r. inSet a r && inSet b r) n (λ r l. sym (in-and a b r) ∙ ap (λ (x : ℕ). inSet x r) (eqb-true (bitAnd a b) 0 e) ∙ in-none r))))
-    (λ e. rw e (by (anyBelow n (λ r. inSet a r && inSet b r)) refl (eqb-false (bitAnd a b) 0 e)))
+    (λ e. rw e (sym (any-each common n (λ r l. none (eqb-true (bitAnd a b) 0 e) r))))
+    (λ e. rw e (by (anyBelow n common) refl (eqb-false (bitAnd a b) 0 e)))
     (met-or-not (eqb (bitAnd a b) 0))
   where
-    by : (t : Bool) → anyBelow n (λ r. inSet a r && inSet b r) ≡ t → (bitAnd a b ≡ 0 → ⊥) → true ≡ t
+    common : ℕ → Bool
+    common r = inSet a r && inSet b r
+
+    none : bitAnd a b ≡ 0 → (r : ℕ) → common r ≡ false
+    none e r = sym (in-and a b r) ∙ ap (λ x. inSet x r) e ∙ in-none r
+
+    empty : anyBelow n common ≡ false → bitAnd a b ≡ 0
+    empty e =
+        same-set n (bitAnd a b) 0 (and-lt n a b ha hb) (pow-pos n)
+        (λ r l. in-and a b r ∙ any-at common n e r l ∙ sym (in-none r))
+
+    by : (t : Bool) → anyBelow n common ≡ t → (bitAnd a b ≡ 0 → ⊥) → true ≡ t
     by true e d = refl
-    by false e d =
-        absurd (d (same-set n (bitAnd a b) 0 (and-lt n a b ha hb) (pow-pos n) (λ r l. in-and a b r ∙ any-at (λ r. inSet a r && inSet b r) n e r l ∙ sym (in-none r))))
+    by false e d = absurd (d (empty e))

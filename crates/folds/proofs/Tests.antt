@@ -2,7 +2,7 @@
 use Prim.Native.Nat.{ℕ, zero, suc, _+_, _<_, _≤_}
 use mathlib.Core.Bool.{Bool, true, false, and-false, or-true, cond, _||_, or-false}
 use mathlib.Core.Path.{_≡_, refl}
-use mathlib.Core.Logic.{_⊎_, ⊎-elim}
+use mathlib.Core.Logic.{⊎-elim}
 use native.Mathlib.Numerals.{add-one}
 use native.Mathlib.Nat.{eq-or-lt-of-le, le-of-suc-le-suc, not-suc-le-zero, lt-irrefl}
 use native.Mathlib.Omega.{arith}
@@ -82,7 +82,9 @@ module _ (p : ℕ → Bool) where
   any-tail m zero h z = let e : m ≡ 0 = omega arith in rw e
   any-tail m (suc n) h z =
       ⊎-elim (λ q. rw q)
-      (λ l. rw (z n (le-of-suc-le-suc l) (omega arith), or-false) (any-tail m n (le-of-suc-le-suc l) (λ i k j. z i k (omega arith))))
+      (λ l.
+      let k = le-of-suc-le-suc l in
+      rw (z n k (omega arith), or-false) (any-tail m n k (λ i h j. z i h (omega arith))))
       (eq-or-lt-of-le h)
 
   -- where p holds of some number below n, one can be named
@@ -109,7 +111,8 @@ module _ (p : ℕ → Bool) where
   first-least zero i h = elim (not-suc-le-zero h) [ ]
   first-least (suc n) i h = by (anyBelow n p) (p n) refl refl (first-least n i) h
     where
-      by : (a b : Bool) → anyBelow n p ≡ a → p n ≡ b → (i < firstBelow n p → p i ≡ false) → i < cond a (firstBelow n p) (cond b n (suc n)) → p i ≡ false
+      by : (a b : Bool) → anyBelow n p ≡ a → p n ≡ b → (i < firstBelow n p → p i ≡ false) →
+          i < cond a (firstBelow n p) (cond b n (suc n)) → p i ≡ false
       by true b ea eb low k = low k
       by false true ea eb low k = any-at n ea i k
       by false false ea eb low k = split k (λ q. rw q eb) (λ l. any-at n ea i l)
@@ -117,8 +120,8 @@ module _ (p : ℕ → Bool) where
   -- where p holds of some number below n, the first lies below n
   pub first-lt : (n : ℕ) → anyBelow n p ≡ true → firstBelow n p < n
   first-lt n h =
-      let w = any-some n h in
-      ⊎-elim (λ q. clash (p (w .0)) (w .2) (first-least n (w .0) (let l = w .1 in rw q l))) (λ l. l) (eq-or-lt-of-le (first-le n))
+      let (i, l, e) = any-some n h in
+      ⊎-elim (λ q. clash (p i) e (first-least n i (rw q l))) (λ l. l) (eq-or-lt-of-le (first-le n))
 
   -- p holds of the first where that lies below n
   pub first-at : (n : ℕ) → firstBelow n p < n → p (firstBelow n p) ≡ true
@@ -126,10 +129,10 @@ module _ (p : ℕ → Bool) where
   first-at zero h = elim (not-suc-le-zero h) [ ]
   first-at (suc n) h = by (anyBelow n p) (p n) refl refl (first-at n) h
     where
-      by : (a b : Bool) → anyBelow n p ≡ a → p n ≡ b → (firstBelow n p < n → p (firstBelow n p) ≡ true) → cond a (firstBelow n p) (cond b n (suc n)) < suc n → p (cond a (firstBelow n p) (cond b n (suc n))) ≡ true
-      by true b ea eb at k =
-          let w = any-some n ea in
-          ⊎-elim (λ q. clash (p (w .0)) (w .2) (first-least n (w .0) (let l = w .1 in rw q l))) at (eq-or-lt-of-le (first-le n))
+      by : (a b : Bool) → anyBelow n p ≡ a → p n ≡ b → (firstBelow n p < n → p (firstBelow n p) ≡ true) →
+          cond a (firstBelow n p) (cond b n (suc n)) < suc n →
+          p (cond a (firstBelow n p) (cond b n (suc n))) ≡ true
+      by true b ea eb at k = at (first-lt n ea)
       by false true ea eb at k = eb
       by false false ea eb at k = absurd (lt-irrefl (suc n) k)
 
@@ -138,7 +141,9 @@ module _ (p : ℕ → Bool) where
   unfolding firstBelow anyBelow
   first-is zero i h e low = elim (not-suc-le-zero h) [ ]
   first-is (suc n) i h e low =
-      split h (λ q. rw (any-each n (λ j l. low j (omega arith)), ← q, e)) (λ l. rw (any-found n i l e) (first-is n i l e low))
+      split h
+      (λ q. rw (any-each n (λ j l. low j (omega arith)), ← q, e))
+      (λ l. rw (any-found n i l e) (first-is n i l e low))
 
   -- the first below n + 1
   pub first-more : (n : ℕ) → firstBelow (n + 1) p ≡ cond (anyBelow n p) (firstBelow n p) (cond (p n) n (n + 1))

@@ -1,19 +1,39 @@
-use Rattle.decision.specs.Conditions.{conditionHolds}
+-- `condition_holds` meets its contract: the condition's operator is asked of the attribute and the value.
+use Prim.Native.Nat.{ℕ, _+_, _*_}
+use mathlib.Core.Bool.{Bool}
+use mathlib.Core.List.{List}
+use mathlib.Core.Path.{_≡_, ap, _∙_}
+use native.Mathlib.Omega.{arith}
 use borrow.Author.Needs.{needs}
+use Rattle.reader.specs.Fields.{conditionAttribute, conditionOperator, conditionValue}
+use Rattle.weights.specs.Operators.{meets}
+use Rattle.decision.specs.Conditions.{attribute, conditionHolds}
 use Rattle.decision.proofs.conditions.condition_holds.Statement.{statement}
 use Rattle.decision.proofs.conditions.condition_holds.Tie as tie
 
-mul-attribute-of : tie.Need-mul-attribute-of
-mul-attribute-of c = search needs
+-- the result, of plain values
+holds : (k : List ℕ) (n sum set i j : ℕ) {x : ℕ} {r : Bool} → x ≡ attribute n sum set (conditionAttribute k i j) →
+    r ≡ meets (conditionOperator k i j) x (conditionValue k i j) → r ≡ conditionHolds k n sum set i j
+unfolding conditionHolds
+holds k n sum set i j is met = met ∙ ap (λ x. meets (conditionOperator k i j) x (conditionValue k i j)) is
 
-mul-attribute-of-2 : tie.Need-mul-attribute-of-2
-mul-attribute-of-2 c = search needs
+abbrev at-attribute : tie.After-attribute-of → tie.Start
+at-attribute c = c .before .before .before
+
+abbrev at-value : tie.After-shared-slice-known4 → tie.After-attribute-of
+at-value c = c .before .before
+
+mul-at : tie.Need-mul-at
+mul-at c = search needs
+
+mul-at-2 : tie.Need-mul-at-2
+mul-at-2 c = search needs
+
+add-at : tie.Need-add-at
+add-at c = search needs
 
 add-attribute-of : tie.Need-add-attribute-of
 add-attribute-of c = search needs
-
-add-attribute-of-2 : tie.Need-add-attribute-of-2
-add-attribute-of-2 c = search needs
 
 shared-slice-read-attribute-of : tie.Need-shared-slice-read-attribute-of
 shared-slice-read-attribute-of c = search needs
@@ -21,66 +41,46 @@ shared-slice-read-attribute-of c = search needs
 attribute-of-requires : tie.Need-attribute-of-requires
 attribute-of-requires c κs = search needs
 
-mul-wide : tie.Need-mul-wide
-mul-wide c = search needs
-
-mul-wide-2 : tie.Need-mul-wide-2
-mul-wide-2 c = search needs
-
-add-wide : tie.Need-add-wide
-add-wide c = search needs
-
-add-wide-2 : tie.Need-add-wide-2
-add-wide-2 c = search needs
-
-shared-slice-read-wide : tie.Need-shared-slice-read-wide
-shared-slice-read-wide c = search needs
-
-wide-requires : tie.Need-wide-requires
-wide-requires c κs = search needs
-
-mul-is-met : tie.Need-mul-is-met
-mul-is-met c = search needs
-
-mul-is-met-2 : tie.Need-mul-is-met-2
-mul-is-met-2 c = search needs
-
 add-is-met : tie.Need-add-is-met
 add-is-met c = search needs
+
+shared-slice-read-is-met : tie.Need-shared-slice-read-is-met
+shared-slice-read-is-met c = search needs
 
 add-is-met-2 : tie.Need-add-is-met-2
 add-is-met-2 c = search needs
 
-shared-slice-read-is-met : tie.Need-shared-slice-read-is-met
-shared-slice-read-is-met c = search needs
+shared-slice-read-is-met-2 : tie.Need-shared-slice-read-is-met-2
+shared-slice-read-is-met-2 c = search needs
+
+cast-is-met : tie.Need-cast-is-met
+cast-is-met c =
+    let a = at-attribute (at-value c) .args in
+    omega (arith, c .shared-slice-known4 .given (16 * a .i + 3 * a .j + 4))
 
 is-met-requires : tie.Need-is-met-requires
 is-met-requires c κs = search needs
 
 returns : tie.Need-returns
-unfolding conditionHolds
-returns c = rw (← c .before .before .before .before .attribute-of .ensures, ← c .before .before .wide .ensures) (c .is-met .ensures)
+returns c =
+    let x = at-value (c .before) in
+    let a = at-attribute x .args in
+    holds (a .k .now) (a .n) (a .sum) (a .set) (a .i) (a .j) (x .attribute-of .ensures) (c .is-met .ensures)
 
 pub condition-holds-spec : {M : Type 1} → statement M
 condition-holds-spec =
     tie.close
     (tie.spec
-    mul-attribute-of
-    mul-attribute-of-2
+    mul-at
+    mul-at-2
+    add-at
     add-attribute-of
-    add-attribute-of-2
     shared-slice-read-attribute-of
     attribute-of-requires
-    mul-wide
-    mul-wide-2
-    add-wide
-    add-wide-2
-    shared-slice-read-wide
-    wide-requires
-    mul-is-met
-    mul-is-met-2
     add-is-met
-    add-is-met-2
     shared-slice-read-is-met
+    add-is-met-2
+    shared-slice-read-is-met-2
+    cast-is-met
     is-met-requires
     returns)

@@ -1,3 +1,4 @@
+-- `role_num` meets its contract: a set has as many ones as members.
 use mathlib.Core.Path.{sym, ap, _∙_}
 use Rattle.folds.proofs.Sets.{set-of-members, ones-set}
 use Rattle.folds.specs.Sets.{inSet}

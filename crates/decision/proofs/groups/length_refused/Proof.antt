@@ -1,3 +1,4 @@
+-- `length_refused` meets its contract: its tests are those of the definition, in the same order.
 use borrow.Author.Tests.{ne-eqb, eq-eqb}
 use Rattle.decision.specs.Groups.{lengthRefused}
 use Rattle.decision.proofs.groups.length_refused.Statement.{statement}

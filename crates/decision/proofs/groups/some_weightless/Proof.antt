@@ -1,44 +1,54 @@
-use Prim.Native.Nat.{_≤_, _-_, _/_}
-use mathlib.Core.Path.{_≡_, sym}
-use mathlib.Core.Bool.{false}
-use borrow.Author.Tests.{ne-eqb, eq-eqb}
-use lib.ListN.{length, getD}
-use lib.Dec.{eqb}
-use Rattle.folds.specs.Below.{anyBelow}
-use Rattle.folds.proofs.Tests.{any-none, any-more, any-found}
-use Rattle.decision.specs.Groups.{entryRole, someWeightless}
+-- `some_weightless` meets its contract: it looks for an entry whose role has weight 0.
+use Prim.Native.Nat.{ℕ, _+_, _*_, _-_, _/_}
+use mathlib.Core.Bool.{Bool}
+use mathlib.Core.List.{List}
 use native.Mathlib.Omega.{arith}
+use lib.Dec.{eqb}
+use lib.ListN.{length, getD}
+use borrow.Author.Tests.{ne-eqb, eq-eqb}
 use borrow.Author.Needs.{needs}
+use Rattle.folds.proofs.Searches.{NoneYet, none-at-first, none-further, one-found, none-found}
+use Rattle.decision.specs.Groups.{entryRole, someWeightless}
 use Rattle.decision.proofs.groups.some_weightless.Statement.{statement}
 use Rattle.decision.proofs.groups.some_weightless.Tie as tie
 
+abbrev weightlessAt : List ℕ → List ℕ → ℕ → Bool
+weightlessAt w g i = eqb (getD w (entryRole g i) 0) 0
+
 abbrev Inv-loop : tie.InvT-loop
-Inv-loop g w i₀ i-end i = (i ≤ length g / 2) × (anyBelow i (λ k. eqb (getD w (entryRole g k) 0) 0) ≡ false)
+Inv-loop g w i₀ i-end i = NoneYet (length g / 2) (weightlessAt w g) i
 
 abbrev μ-loop : tie.MeasureT-loop
 μ-loop g w i₀ i-end i = length g / 2 - i
 
+abbrev at-role : tie.After-shared-slice-known Inv-loop μ-loop → tie.In-loop Inv-loop μ-loop
+at-role c = c .before
+
 loop-holds : tie.Need-loop-holds Inv-loop μ-loop
-loop-holds c = (search needs, any-none _)
+loop-holds c = none-at-first
 
-mul-wide : tie.Need-mul-wide Inv-loop μ-loop
-mul-wide c = search needs
+mul-if1 : tie.Need-mul-if1 Inv-loop μ-loop
+mul-if1 c = search needs
 
-add-wide : tie.Need-add-wide Inv-loop μ-loop
-add-wide c = search needs
+add-if1 : tie.Need-add-if1 Inv-loop μ-loop
+add-if1 c = search needs
 
-shared-slice-read-wide : tie.Need-shared-slice-read-wide Inv-loop μ-loop
-shared-slice-read-wide c = search needs
+shared-slice-read-if1 : tie.Need-shared-slice-read-if1 Inv-loop μ-loop
+shared-slice-read-if1 c = search needs
 
-wide-requires : tie.Need-wide-requires Inv-loop μ-loop
-wide-requires c κs = search needs
+cast-if1 : tie.Need-cast-if1 Inv-loop μ-loop
+cast-if1 c = omega (arith, c .shared-slice-known .given (2 * at-role c .before .loop .i + 1))
 
 array-read-if1 : tie.Need-array-read-if1 Inv-loop μ-loop
-array-read-if1 c = rw (c .wide .ensures .0) (c .before .before .before .before .before .pre (c .before .before .before .loop .i) (c .before .before .loop-test .taken))
+array-read-if1 c =
+    let turn = at-role c .before in
+    turn .before .pre (turn .loop .i) (at-role c .loop-test .taken)
 
 returns : tie.Need-returns Inv-loop μ-loop
 unfolding someWeightless
-returns c = sym (any-found (λ k. eqb (getD (c .before .before .before .before .before .before .args .t2) (entryRole (c .before .before .before .before .before .before .args .g .now) k) 0) 0) _ (c .before .before .before .before .loop .i) (c .before .before .before .loop-test .taken) (rw (← c .before .wide .ensures .0) (eq-eqb _ _ (c .if1 .taken))))
+returns c =
+    let turn = at-role (c .before) in
+    one-found (turn .before .loop .inv) (turn .loop-test .taken) (eq-eqb _ _ (c .if1 .taken))
 
 add-i : tie.Need-add-i Inv-loop μ-loop
 add-i c = search needs
@@ -47,11 +57,13 @@ loop-less : tie.Need-loop-less Inv-loop μ-loop
 loop-less c = search needs
 
 loop-again : tie.Need-loop-again Inv-loop μ-loop
-loop-again c = (search needs, any-more (λ k. eqb (getD (c .before .before .before .before .before .before .args .t2) (entryRole (c .before .before .before .before .before .before .args .g .now) k) 0) 0) (c .before .before .before .before .loop .i) (c .before .before .before .before .loop .inv .1) (rw (← c .before .wide .ensures .0) (ne-eqb _ _ (c .if1 .left))))
+loop-again c =
+    let turn = at-role (c .before) in
+    none-further (turn .before .loop .inv) (turn .loop-test .taken) (ne-eqb _ _ (c .if1 .left))
 
 returns-2 : tie.Need-returns-2 Inv-loop μ-loop
 unfolding someWeightless
-returns-2 c = let e : c .before .loop .i ≡ length (c .before .before .before .args .g .now) / 2 = omega arith in rw (← e, c .before .loop .inv .1)
+returns-2 c = none-found (c .before .loop .inv) (c .loop-test .left)
 
 pub some-weightless-spec : {M : Type 1} → statement M
 some-weightless-spec =
@@ -60,10 +72,10 @@ some-weightless-spec =
     Inv-loop
     μ-loop
     loop-holds
-    mul-wide
-    add-wide
-    shared-slice-read-wide
-    wide-requires
+    mul-if1
+    add-if1
+    shared-slice-read-if1
+    cast-if1
     array-read-if1
     returns
     add-i
