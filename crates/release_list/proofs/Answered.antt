@@ -16,12 +16,14 @@ use Rattle.reader.proofs.Accepted.{accepted-frame}
 use Rattle.weights.specs.declared.Context.{Context}
 use Rattle.report.specs.Smallest.{smallestOf}
 use Rattle.report.specs.Report.{reportRefusal, releasable, reportAnswer, ShownFor, Reported}
-use Rattle.release_list.specs.Text.{ascii, lineText, countText, refusedText, releasableText, refusalFor, reportText, baseOf, contextOf, listingText, Listed}
+use Rattle.release_list.specs.Text.{ascii, lineText, countText, refusedText, releasableText, refusalFor}
+use Rattle.release_list.specs.Text.{reportText, baseOf, contextOf, listingText, Listed}
 use Rattle.release_list.specs.Writing.{Written, Parts, linesText, ReportListed}
 use Rattle.release_list.proofs.Stores.{joined}
 use Rattle.release_list.proofs.Sizes.{count-length}
 use Rattle.release_list.proofs.Decimal.{two-length, three-length}
-use Rattle.release_list.proofs.Shown.{base-accepted, buffer-suffices, shown-parts, shown-lines, lines-le, releasable-few}
+use Rattle.release_list.proofs.Shown.{base-accepted, buffer-suffices, shown-parts, shown-lines, lines-le}
+use Rattle.release_list.proofs.Shown.{releasable-few}
 
 -- a text written from byte 0 on, and the bytes behind it as they were
 pub at-front : (text : List ℕ) {out after : List ℕ} {n : ℕ} → Written text out 0 n after → length text ≤ length out →
@@ -34,7 +36,8 @@ at-front text {out} {after} {n} w l =
 pub count-short : (words : List ℕ) (n : ℕ) → length words ≤ 11 → length (countText words n) ≤ 15
 count-short words n l = let e = count-length words n in let h = three-length n in omega arith
 
--- what is known of a report that isn't refused, before its text is written: 16 lines of at most 47 bytes and a last line of 14 fit
+-- what is known of a report that isn't refused, before its text is written: 16 lines of at most 47 bytes and a last
+-- line of 14 fit
 pub record Ready (b after : List ℕ) (r : Answer) : Type 0 where
   pub tables : frameRefusal b ≡ 0
   pub parts : Parts after (permissionCount b)
@@ -43,7 +46,8 @@ pub record Ready (b after : List ℕ) (r : Answer) : Type 0 where
   pub last : length (releasableText (r .count)) ≤ 14
 
 -- the answer of a report in a buffer of 208 bytes
-module _ (b : List ℕ) (at : Context) (was after : List ℕ) (r : Answer) (size : length was ≡ 208) (d : Reported b at was after r) where
+module _ (b : List ℕ) (at : Context) (was after : List ℕ) (r : Answer) (size : length was ≡ 208)
+    (d : Reported b at was after r) where
   answer-is : r ≡ reportAnswer b at 208
   answer-is = d .answer ∙ ap (reportAnswer b at) size
 
@@ -52,7 +56,9 @@ module _ (b : List ℕ) (at : Context) (was after : List ℕ) (r : Answer) (size
   refusal-is = ap (λ (x : Answer). x .refusal) answer-is ∙ by (eqb (reportRefusal b at 208) 0) refl
     where
       by : (t : Bool) → eqb (reportRefusal b at 208) 0 ≡ t →
-          cond {A = Answer} t (record { refusal = 0; count = releasable b at }) (record { refusal = reportRefusal b at 208; count = 0 }) .refusal ≡ reportRefusal b at 208
+          cond {A = Answer} t (record { refusal = 0; count = releasable b at })
+          (record { refusal = reportRefusal b at 208; count = 0 }) .refusal
+          ≡ reportRefusal b at 208
       by true e = sym (eqb-true _ _ e)
       by false e = refl
 
@@ -63,12 +69,13 @@ module _ (b : List ℕ) (at : Context) (was after : List ℕ) (r : Answer) (size
   shown-where : refusalFor b at ≡ 0 → (p : ℕ) → p < permissionCount b → ShownFor b at p (d .chosen p)
   shown-where z = d .shown (rw size (buffer-suffices b at ∙ z))
 
-  pub refused-listed : (r .refusal ≡ 0 → ⊥) → {out text : List ℕ} {n : ℕ} → 768 ≤ length out → Written (refusedText (r .refusal)) out 0 n text →
-      ReportListed b at out text n
+  pub refused-listed : (r .refusal ≡ 0 → ⊥) → {out text : List ℕ} {n : ℕ} → 768 ≤ length out →
+      Written (refusedText (r .refusal)) out 0 n text → ReportListed b at out text n
   unfolding reportText
   refused-listed h {out} l w =
       let e : eqb (refusalFor b at) 0 ≡ false = ne-eqb _ 0 (λ z. h (printed-is ∙ z)) in
-      let t = at-front (refusedText (r .refusal)) w (omega (arith, count-short (ascii "refused ") (r .refusal) (omega arith))) in
+      let short = count-short (ascii "refused ") (r .refusal) (omega arith) in
+      let t = at-front (refusedText (r .refusal)) w (omega (arith, short)) in
       record {
         chosen = d .chosen;
         shown = shown-where;
@@ -98,7 +105,8 @@ module _ (b : List ℕ) (at : Context) (was after : List ℕ) (r : Answer) (size
         let h = two-length (r .count) (omega arith) in
         omega arith
 
-    lines-are : linesText after (permissionCount b) ≡ joinBelow (permissionCount b) (λ p. lineText p (smallestOf b at p) (d .chosen p))
+    lines-are : linesText after (permissionCount b) ≡
+        joinBelow (permissionCount b) (λ p. lineText p (smallestOf b at p) (d .chosen p))
     lines-are = rw (d .bytes) (shown-lines b at (d .chosen) unrefused shows was size)
 
     lines-short : length (linesText after (permissionCount b)) ≤ 752
@@ -113,13 +121,15 @@ module _ (b : List ℕ) (at : Context) (was after : List ℕ) (r : Answer) (size
       last = last-short;
     }
 
-    pub done-listed : {out mid text : List ℕ} {next n : ℕ} → 768 ≤ length out → Written (linesText after (permissionCount b)) out 0 next mid →
+    pub done-listed : {out mid text : List ℕ} {next n : ℕ} → 768 ≤ length out →
+        Written (linesText after (permissionCount b)) out 0 next mid →
         Written (releasableText (r .count)) mid next n text → ReportListed b at out text n
     unfolding reportText
     done-listed {out} l v w =
         let e = eq-eqb (refusalFor b at) 0 (sym printed-is ∙ done) in
-        let fit : length (linesText after (permissionCount b) ++ releasableText (r .count)) ≤ length out = rw length-append (omega (arith, lines-short, last-short)) in
-        let t = at-front (linesText after (permissionCount b) ++ releasableText (r .count)) (joined v w) fit in
+        let whole = linesText after (permissionCount b) ++ releasableText (r .count) in
+        let fit : length whole ≤ length out = rw length-append (omega (arith, lines-short, last-short)) in
+        let t = at-front whole (joined v w) fit in
         record {
           chosen = d .chosen;
           shown = shown-where;
@@ -128,7 +138,8 @@ module _ (b : List ℕ) (at : Context) (was after : List ℕ) (r : Answer) (size
         }
 
 -- what the program prints for an input shorter than 4 bytes
-pub short-listed : {input out after : List ℕ} {n : ℕ} → length input < 4 → 768 ≤ length out → Written (refusedText 1) out 0 n after → Listed input out after n
+pub short-listed : {input out after : List ℕ} {n : ℕ} → length input < 4 → 768 ≤ length out →
+    Written (refusedText 1) out 0 n after → Listed input out after n
 unfolding listingText
 short-listed {input} {out} h l w =
     let e = lt-ltb (length input) 4 h in
@@ -141,7 +152,8 @@ short-listed {input} {out} h l w =
     }
 
 -- and for any other
-pub long-listed : {input out after : List ℕ} {n : ℕ} → 4 ≤ length input → ReportListed (baseOf input) (contextOf input) out after n → Listed input out after n
+pub long-listed : {input out after : List ℕ} {n : ℕ} → 4 ≤ length input →
+    ReportListed (baseOf input) (contextOf input) out after n → Listed input out after n
 unfolding listingText
 long-listed {input} h d =
     let e = le-ltb (length input) 4 h in

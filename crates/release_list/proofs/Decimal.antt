@@ -29,12 +29,14 @@ one-length n h = ap length (one-digit n h)
 
 pub two-length : (n : ℕ) → n < 100 → length (decimal n) ≤ 2
 two-length n h =
-    ⊎-elim (λ t. let e = one-length n (ltb-true n 10 t) in omega arith) (λ t. let e = ap length (two-digits n (ltb-false n 10 t) h) in omega arith)
+    ⊎-elim (λ t. let e = one-length n (ltb-true n 10 t) in omega arith)
+    (λ t. let e = ap length (two-digits n (ltb-false n 10 t) h) in omega arith)
     (met-or-not (ltb n 10))
 
 pub three-length : (n : ℕ) → length (decimal n) ≤ 3
 three-length n =
-    ⊎-elim (λ t. let e = two-length n (ltb-true n 100 t) in omega arith) (λ t. let e = ap length (three-digits n (ltb-false n 100 t)) in omega arith)
+    ⊎-elim (λ t. let e = two-length n (ltb-true n 100 t) in omega arith)
+    (λ t. let e = ap length (three-digits n (ltb-false n 100 t)) in omega arith)
     (met-or-not (ltb n 100))
 
 module _ (l : List ℕ) (at n : ℕ) where
@@ -42,9 +44,11 @@ module _ (l : List ℕ) (at n : ℕ) where
   pub one-stored : n < 10 → Written (decimal n) l at (at + 1) (set l at (digit n))
   one-stored h = rw (one-digit n h) (record { place = refl; bytes = refl })
 
-  pub two-stored : 10 ≤ n → n < 100 → Written (decimal n) l at (at + 2) (set (set l at (digit (n / 10))) (at + 1) (digit (n % 10)))
+  pub two-stored : 10 ≤ n → n < 100 →
+      Written (decimal n) l at (at + 2) (set (set l at (digit (n / 10))) (at + 1) (digit (n % 10)))
   two-stored k h = rw (two-digits n k h, add-one) (record { place = refl; bytes = refl })
 
   pub three-stored : 100 ≤ n →
-      Written (decimal n) l at (at + 3) (set (set (set l at (digit (n / 100))) (at + 1) (digit (n / 10 % 10))) (at + 2) (digit (n % 10)))
+      Written (decimal n) l at (at + 3)
+      (set (set (set l at (digit (n / 100))) (at + 1) (digit (n / 10 % 10))) (at + 2) (digit (n % 10)))
   three-stored k = rw (three-digits n k, add-one, add-two) (record { place = refl; bytes = refl })

@@ -2,7 +2,8 @@
 use mathlib.Core.Path.{_≡_, refl}
 use mathlib.Core.List.{[], _∷_, _++_}
 use Rattle.folds.specs.Below.{joinBelow}
-use Rattle.release_list.specs.Text.{ascii, decimal, entryText, entriesText, lineText, countText, releasableText, refusedText}
+use Rattle.release_list.specs.Text.{ascii, decimal, entryText, entriesText, lineText, countText}
+use Rattle.release_list.specs.Text.{releasableText, refusedText}
 
 pub small-shop : lineText 0 2 (0 ∷ 0 ∷ 1 ∷ 1 ∷ []) ++ releasableText 1 ≡ ascii "permission 0: 2 0/0 1/1\nreleasable 1\n"
 unfolding lineText entriesText entryText countText decimal joinBelow

@@ -35,7 +35,8 @@ unfolding reportRefusal
 base-accepted b at n = by (eqb (refusalOf b) 0) refl
   where
     by : (t : Bool) → eqb (refusalOf b) 0 ≡ t →
-        cond (not t) (refusalOf b) (cond (outOfRange at) 11 (cond (ltb n (13 * permissionCount b)) 19 0)) ≡ 0 → refusalOf b ≡ 0
+        cond (not t) (refusalOf b) (cond (outOfRange at) 11 (cond (ltb n (13 * permissionCount b)) 19 0)) ≡ 0 →
+        refusalOf b ≡ 0
     by true e h = eqb-true (refusalOf b) 0 e
     by false e h = h
 
@@ -46,10 +47,12 @@ buffer-suffices b at = by (eqb (refusalOf b) 0) refl
   where
     by : (t : Bool) → eqb (refusalOf b) 0 ≡ t →
         cond (not t) (refusalOf b) (cond (outOfRange at) 11 (cond (ltb 208 (13 * permissionCount b)) 19 0)) ≡
-        cond (not t) (refusalOf b) (cond (outOfRange at) 11 (cond (ltb (13 * permissionCount b) (13 * permissionCount b)) 19 0))
+        cond (not t) (refusalOf b)
+        (cond (outOfRange at) 11 (cond (ltb (13 * permissionCount b) (13 * permissionCount b)) 19 0))
     by true e =
         let few = permissions-le b (accepted-frame b (eqb-true (refusalOf b) 0 e)) in
-        rw (le-ltb 208 (13 * permissionCount b) (omega arith), le-ltb (13 * permissionCount b) (13 * permissionCount b) (omega arith))
+        let size = 13 * permissionCount b in
+        rw (le-ltb 208 size (omega arith), le-ltb size size (omega arith))
     by false e = refl
 
 -- a group that is shown is small, its users rise, and users and roles have few digits
@@ -62,7 +65,8 @@ module _ (b : List ℕ) (at : Context) (p : ℕ) (g : List ℕ) (shown : ShownFo
 
   shown-few : smallestOf b at p ≤ 6
   shown-few =
-      ⊎-elim (λ z. omega arith) (λ h. let w = granted-by b at p g .0 (shown .granted h) .3 .few in let e = count-is in omega arith)
+      ⊎-elim (λ z. omega arith)
+      (λ h. let w = granted-by b at p g .0 (shown .granted h) .3 .few in let e = count-is in omega arith)
       (eq-zero-or-pos (smallestOf b at p))
 
   user-below : (i : ℕ) → i < entryCount g → entryUser g i < 100
@@ -96,7 +100,8 @@ module _ (b : List ℕ) (at : Context) (chosen : ℕ → List ℕ) (ok : reportR
 
   -- the parts in order, and the bytes behind them as they were
   parts-bytes : (out : List ℕ) → length out ≡ 208 →
-      reportBytes b at chosen out ≡ joinBelow (permissionCount b) (λ p. partBytes (smallestOf b at p) (chosen p)) ++ drop (13 * permissionCount b) out
+      reportBytes b at chosen out ≡
+      joinBelow (permissionCount b) (λ p. partBytes (smallestOf b at p) (chosen p)) ++ drop (13 * permissionCount b) out
   unfolding reportBytes
   parts-bytes out e = rw (e, eq-eqb (reportRefusal b at 208) 0 ok)
 
@@ -113,7 +118,8 @@ module _ (b : List ℕ) (at : Context) (chosen : ℕ → List ℕ) (ok : reportR
         (group-at (smallestOf b at) chosen (permissionCount b) (drop (13 * permissionCount b) out)
         (λ q h. shown-few b at q (chosen q) (shown q h)) (λ q h. shown q h .number) p l)
 
-    pub shown-parts : length (reportBytes b at chosen out) ≡ 208 → Parts (reportBytes b at chosen out) (permissionCount b)
+    pub shown-parts : length (reportBytes b at chosen out) ≡ 208 →
+        Parts (reportBytes b at chosen out) (permissionCount b)
     shown-parts n = let few = permissions-few in record {
       size = omega arith;
       few = λ p l. rw (number-shown p l) (shown-few b at p (chosen p) (shown p l));
@@ -125,8 +131,8 @@ module _ (b : List ℕ) (at : Context) (chosen : ℕ → List ℕ) (ok : reportR
         joinBelow (permissionCount b) (λ p. lineText p (smallestOf b at p) (chosen p))
     unfolding linesText
     shown-lines =
-        join-same (lineAt (reportBytes b at chosen out)) (λ p. lineText p (smallestOf b at p) (chosen p)) (permissionCount b)
-        (λ p l. rw (group-shown p l, number-shown p l))
+        join-same (lineAt (reportBytes b at chosen out)) (λ p. lineText p (smallestOf b at p) (chosen p))
+        (permissionCount b) (λ p l. rw (group-shown p l, number-shown p l))
 
   -- 16 lines of at most 47 bytes
   pub lines-le : length (joinBelow (permissionCount b) (λ p. lineText p (smallestOf b at p) (chosen p))) ≤ 752
@@ -139,4 +145,6 @@ module _ (b : List ℕ) (at : Context) (chosen : ℕ → List ℕ) (ok : reportR
 
   pub releasable-few : releasable b at ≤ 16
   unfolding releasable
-  releasable-few = let few = permissions-few in omega (arith, count-le (λ p. ltb 0 (smallestOf b at p)) (permissionCount b))
+  releasable-few =
+      let few = permissions-few in
+      omega (arith, count-le (λ p. ltb 0 (smallestOf b at p)) (permissionCount b))

@@ -14,6 +14,7 @@ pub entry-length : (user role : ℕ) → length (entryText user role) ≡ length
 unfolding entryText
 entry-length user role = simp length-append (omega arith)
 
-pub line-length : (p k : ℕ) (g : List ℕ) → length (lineText p k g) ≡ length (decimal p) + length (decimal k) + length (entriesText g) + 14
+pub line-length : (p k : ℕ) (g : List ℕ) →
+    length (lineText p k g) ≡ length (decimal p) + length (decimal k) + length (entriesText g) + 14
 unfolding lineText
 line-length p k g = simp length-append (omega arith)

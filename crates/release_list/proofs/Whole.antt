@@ -14,7 +14,8 @@ use Rattle.reader.specs.Tables.{lengthBad}
 use Rattle.reader.specs.Rules.{refusalOf}
 use Rattle.weights.specs.declared.Context.{Context}
 use Rattle.report.specs.Report.{reportRefusal}
-use Rattle.release_list.specs.Text.{refusedText, refusalFor, reportText, baseOf, contextOf, listingText, Listed, WholeListed}
+use Rattle.release_list.specs.Text.{refusedText, refusalFor, reportText, baseOf, contextOf, listingText, Listed}
+use Rattle.release_list.specs.Text.{WholeListed}
 use Rattle.release_list.proofs.Answered.{listed-within}
 
 -- a base of more than 2,364 bytes is refused by 1
@@ -35,7 +36,8 @@ module _ (input : List ℕ) (long : 2368 < length input) where
 long-same : (part whole : List ℕ) {out after : List ℕ} {n : ℕ} → 2368 < length part → 2368 < length whole →
     Listed part out after n → Listed whole out after n
 long-same part whole {out} {after} {n} p w d =
-    let e : listingText part (d .chosen) ≡ listingText whole (d .chosen) = long-text part p (d .chosen) ∙ sym (long-text whole w (d .chosen)) in
+    let e : listingText part (d .chosen) ≡ listingText whole (d .chosen) =
+    long-text part p (d .chosen) ∙ sym (long-text whole w (d .chosen)) in
     record {
       chosen = d .chosen;
       shown = λ k z. absurd (omega (arith, base-refused whole w));
@@ -49,16 +51,22 @@ pub whole-listed : {input out after : List ℕ} {read n : ℕ} → length input 
 whole-listed {input} {out} {after} {read} {n} size d =
     record { listed = λ whole e. ⊎-elim (more whole e) (all whole e) (met-or-not (ltb (length input) (length whole))) }
   where
-    all : (whole : List ℕ) → take (length input) whole ≡ take read input → ltb (length input) (length whole) ≡ false → Listed whole out after n
+    all : (whole : List ℕ) → take (length input) whole ≡ take read input →
+        ltb (length input) (length whole) ≡ false → Listed whole out after n
     all whole e t = rw (← take-all (length input) whole (ltb-false _ _ t), e) d
 
-    more : (whole : List ℕ) → take (length input) whole ≡ take read input → ltb (length input) (length whole) ≡ true → Listed whole out after n
+    more : (whole : List ℕ) → take (length input) whole ≡ take read input →
+        ltb (length input) (length whole) ≡ true → Listed whole out after n
     more whole e t =
         let h : length input < length whole = ltb-true _ _ t in
-        let s : length (take read input) ≡ length input = ap length (sym e) ∙ length-take-le (length input) whole (omega arith) in
+        let s : length (take read input) ≡ length input =
+        ap length (sym e) ∙ length-take-le (length input) whole (omega arith) in
         long-same (take read input) whole (omega arith) (omega arith) d
 
 -- the text lies within the buffer
-pub whole-within : {input out after : List ℕ} {read n : ℕ} → read ≤ length input → WholeListed input read out after n → n ≤ length after
+pub whole-within : {input out after : List ℕ} {read n : ℕ} → read ≤ length input → WholeListed input read out after n →
+    n ≤ length after
 whole-within {input} {read = read} h d =
-    listed-within (d .listed (take read input) (take-all (length input) (take read input) (rw (length-take-le read input h) h)))
+    let part = take read input in
+    let same = take-all (length input) part (rw (length-take-le read input h) h) in
+    listed-within (d .listed part same)

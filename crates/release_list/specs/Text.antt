@@ -90,8 +90,8 @@ pub record Listed (input out after : List ℕ) (n : ℕ) : Type 0 where
   pub size : n ≡ length (listingText input chosen)
   pub bytes : after ≡ listingText input chosen ++ drop n out
 
--- the promise of the listing: `input` is the program's buffer, and reading gave its first `read` bytes. Whatever the whole
--- standard input is, however long, if these are its first bytes, as many as the buffer holds or all, then the text for the
--- whole is what is printed.
+-- the promise of the listing: `input` is the program's buffer, and reading gave its first `read` bytes. Whatever the
+-- whole standard input is, however long, if these are its first bytes, as many as the buffer holds or all, then the
+-- text for the whole is what is printed.
 pub record WholeListed (input : List ℕ) (read : ℕ) (out after : List ℕ) (n : ℕ) : Type 0 where
   pub listed : (whole : List ℕ) → take (length input) whole ≡ take read input → Listed whole out after n

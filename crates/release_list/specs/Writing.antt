@@ -1,4 +1,5 @@
--- Working notions of the writing functions, which a reader of the promise need not believe; Text.antt is what to believe.
+-- Working notions of the writing functions, which a reader of the promise need not believe; Text.antt is what to
+-- believe.
 use Prim.Native.Nat.{ℕ, _+_, _*_, _<_, _≤_}
 use mathlib.Core.Path.{_≡_}
 use mathlib.Core.List.{List, _++_}

@@ -45,8 +45,8 @@ fn put_listing(out: &mut [u8], input: &[u8]) -> usize
     put_report(out, &input[4..], context_of(input))
 }
 
-// Inner: all that the program prints, in the first bytes of `out`; how many. `input` is its buffer, of which `read` bytes
-// were read: 4 of context, 2,364 of base, and one more, by which a longer base is seen.
+// Inner: all that the program prints, in the first bytes of `out`; how many. `input` is its buffer, of which `read`
+// bytes were read: 4 of context, 2,364 of base, and one more, by which a longer base is seen.
 pub fn listing(input: &[u8], read: usize, out: &mut [u8]) -> usize
     requires { ⌜ (length (now input) ≡ 2369) × (read ≤ 2369) × (768 ≤ length (now out)) ⌝ }
     ensures { λ n. ⌜ WholeListed (now (input .entry)) read (now (out .entry)) (now (out .exit)) n ⌝ }

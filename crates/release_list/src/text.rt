@@ -1,5 +1,6 @@
 // The text of a report. Each function writes its text from a place on and returns the place behind it.
 ghost use Prim.Native.Nat.{_+_, _≤_};
+ghost use mathlib.Core.List.{_++_};
 ghost use lib.ListN.{length};
 ghost use Rattle.release_list.specs.Text.{decimal, countText, entryText, lineText};
 ghost use Rattle.release_list.specs.Writing.{Written, standingText, Rising, Parts, linesText};
@@ -35,13 +36,21 @@ fn put_decimal(out: &mut [u8], at: usize, n: u8) -> usize
     at + 3
 }
 
+// Words and a number.
+fn put_number(out: &mut [u8], at: usize, words: &[u8], n: u8) -> usize
+    requires { ⌜ at + length (now words) + length (decimal n) ≤ length (now out) ⌝ }
+    ensures { λ r. ⌜ Written (now (words .entry) ++ decimal n) (now (out .entry)) at r (now (out .exit)) ⌝ }
+{
+    let number = put(out, at, words);
+    put_decimal(out, number, n)
+}
+
 // Inner: a line of words and a number.
 pub fn put_count(out: &mut [u8], at: usize, words: &[u8], n: u8) -> usize
     requires { ⌜ at + length (countText (now words) n) ≤ length (now out) ⌝ }
     ensures { λ r. ⌜ Written (countText (now (words .entry)) n) (now (out .entry)) at r (now (out .exit)) ⌝ }
 {
-    let number = put(out, at, words);
-    let end = put_decimal(out, number, n);
+    let end = put_number(out, at, words, n);
     put(out, end, b"\n")
 }
 
@@ -50,10 +59,8 @@ fn put_entry(out: &mut [u8], at: usize, user: u8, role: u8) -> usize
     requires { ⌜ at + length (entryText user role) ≤ length (now out) ⌝ }
     ensures { λ r. ⌜ Written (entryText user role) (now (out .entry)) at r (now (out .exit)) ⌝ }
 {
-    let first = put(out, at, b" ");
-    let slash = put_decimal(out, first, user);
-    let second = put(out, slash, b"/");
-    put_decimal(out, second, role)
+    let slash = put_number(out, at, b" ", user);
+    put_number(out, slash, b"/", role)
 }
 
 // The entries of a group in the order in which they stand.
@@ -63,7 +70,8 @@ fn put_entries(out: &mut [u8], at: usize, group: &[u8]) -> usize
 {
     let mut next = at;
     for i in 0..group.len() / 2 {
-        next = put_entry(out, next, group[2 * i], group[2 * i + 1]);
+        let entry = 2 * i;
+        next = put_entry(out, next, group[entry], group[entry + 1]);
     }
     next
 }
@@ -73,10 +81,8 @@ fn put_line(out: &mut [u8], at: usize, p: u8, k: u8, group: &[u8]) -> usize
     requires { ⌜ Rising (now group) × (at + length (lineText p k (now group)) ≤ length (now out)) ⌝ }
     ensures { λ r. ⌜ Written (lineText p k (now (group .entry))) (now (out .entry)) at r (now (out .exit)) ⌝ }
 {
-    let number = put(out, at, b"permission ");
-    let colon = put_decimal(out, number, p);
-    let count = put(out, colon, b": ");
-    let entries = put_decimal(out, count, k);
+    let colon = put_number(out, at, b"permission ", p);
+    let entries = put_number(out, colon, b": ", k);
     let end = put_entries(out, entries, group);
     put(out, end, b"\n")
 }
@@ -90,8 +96,9 @@ pub fn put_lines(out: &mut [u8], parts: &[u8], n: u8) -> usize
     for p in 0..n {
         let part = 13 * (p as usize);
         let k = parts[part];
-        let end = part + 1 + 2 * (k as usize);
-        next = put_line(out, next, p, k, &parts[part + 1..end]);
+        let group = part + 1;
+        let end = group + 2 * (k as usize);
+        next = put_line(out, next, p, k, &parts[group..end]);
     }
     next
 }

@@ -1,11 +1,10 @@
 -- The report's answers, by the first refusal that applies.
 use Prim.Native.Nat.{ℕ, _*_, _<_, _≤_}
 use mathlib.Core.Bool.{true, false}
-use mathlib.Core.Path.{_≡_, refl, sym, _∙_}
+use mathlib.Core.Path.{_≡_, sym, _∙_}
 use mathlib.Core.List.{List, []}
 use borrow.Author.Tests.{ne-eqb, lt-ltb, le-ltb}
 use lib.ListN.{length}
-use Rattle.reader.specs.declared.Answer.{Answer}
 use Rattle.reader.specs.Tables.{permissionCount}
 use Rattle.reader.specs.Rules.{refusalOf}
 use Rattle.weights.specs.declared.Context.{Context}
@@ -22,16 +21,19 @@ module _ (b : List ℕ) (at : Context) where
   unfolding reportRefusal
   refused-context n ok out = rw (ok, out)
 
-  pub refused-buffer : (n : ℕ) → refusalOf b ≡ 0 → outOfRange at ≡ false → n < 13 * permissionCount b → reportRefusal b at n ≡ 19
+  pub refused-buffer : (n : ℕ) → refusalOf b ≡ 0 → outOfRange at ≡ false → n < 13 * permissionCount b →
+      reportRefusal b at n ≡ 19
   unfolding reportRefusal
   refused-buffer n ok in-range short = rw (ok, in-range, lt-ltb _ _ short)
 
-  pub not-refused : (n : ℕ) → refusalOf b ≡ 0 → outOfRange at ≡ false → 13 * permissionCount b ≤ n → reportRefusal b at n ≡ 0
+  pub not-refused : (n : ℕ) → refusalOf b ≡ 0 → outOfRange at ≡ false → 13 * permissionCount b ≤ n →
+      reportRefusal b at n ≡ 0
   unfolding reportRefusal
   not-refused n ok in-range fits = rw (ok, in-range, le-ltb _ _ fits)
 
   -- a refusal carries 0 and writes nothing
-  pub reported-refused : (out : List ℕ) (n : ℕ) → reportRefusal b at (length out) ≡ n → (n ≡ 0 → ⊥) → Reported b at out out (record { refusal = n; count = 0 })
+  pub reported-refused : (out : List ℕ) (n : ℕ) → reportRefusal b at (length out) ≡ n → (n ≡ 0 → ⊥) →
+      Reported b at out out (record { refusal = n; count = 0 })
   unfolding reportAnswer reportBytes
   reported-refused out n e some = record {
     answer = rw (e, ne-eqb _ _ some);

@@ -1,7 +1,7 @@
 -- Demand 3 follows from the report's promise.
-use Prim.Native.Nat.{ℕ, zero, suc, _+_, _-_, _*_, _<_, _≤_}
+use Prim.Native.Nat.{ℕ, zero, _+_, _-_, _*_, _<_, _≤_}
 use mathlib.Core.Bool.{true}
-use mathlib.Core.Path.{_≡_, refl, sym, ap, _∙_}
+use mathlib.Core.Path.{_≡_, ap, _∙_}
 use mathlib.Core.Logic.{_↔_, ⊎-elim}
 use mathlib.Core.List.{List, _++_}
 use native.Mathlib.Omega.{arith}
@@ -9,17 +9,15 @@ use native.Mathlib.Nat.{eq-zero-or-pos, lt-irrefl}
 use borrow.Author.Tests.{eqb-true, eq-eqb, ltb-true, lt-ltb}
 use lib.Dec.{ltb, eqb}
 use lib.ListN.{length, drop, length-append}
-use Rattle.folds.specs.Below.{joinBelow, countBelow}
+use Rattle.folds.specs.Below.{joinBelow}
 use Rattle.reader.specs.declared.Answer.{Answer}
 use Rattle.reader.specs.Tables.{permissionCount}
-use Rattle.reader.specs.Rules.{refusalOf}
 use Rattle.weights.specs.declared.Context.{Context}
-use Rattle.weights.specs.Contexts.{outOfRange}
 use Rattle.decision.specs.Decision.{decisionOf}
-use Rattle.decision.specs.Groups.{entryCount}
-use Rattle.report.specs.Smallest.{smallest, smallestOf}
-use Rattle.report.specs.Report.{reportRefusal, releasable, reportAnswer, ShownFor, partBytes, reportBytes, Reported}
-use Rattle.report.specs.Demand.{numberFor, groupFor, userNum, Grantable, Demand3, Demanded}
+use Rattle.report.specs.Smallest.{smallestOf}
+use Rattle.report.specs.Report.{releasable, reportAnswer, ShownFor, partBytes, reportBytes}
+use Rattle.report.specs.Report.{Reported}
+use Rattle.report.specs.Demand.{numberFor, groupFor, userNum, Grantable, Demanded}
 use Rattle.report.proofs.Least.{of-decision, smallest-shown, smallest-least}
 use Rattle.report.proofs.Answers.{not-refused}
 use Rattle.report.proofs.Filling.{at-most-six, done-length}
@@ -28,7 +26,8 @@ use Rattle.report.proofs.Users.{granted-users}
 
 module _ (b : List ℕ) (at : Context) where
   -- the law of the smallest number, of the decision
-  least-of : (p : ℕ) (t : List ℕ) → decisionOf b at p t ≡ 0 → (0 < smallestOf b at p) × (2 * smallestOf b at p ≤ length t)
+  least-of : (p : ℕ) (t : List ℕ) → decisionOf b at p t ≡ 0 →
+      (0 < smallestOf b at p) × (2 * smallestOf b at p ≤ length t)
   unfolding smallestOf
   least-of p t h = smallest-least (λ g. eqb (decisionOf b at p g) 0) (of-decision b at p) t (eq-eqb _ _ h)
 
@@ -49,10 +48,16 @@ module _ (b : List ℕ) (at : Context) where
       let e = not-refused b at (length out) ok in-range fits in
       let shown = d .shown e in
       let rest = drop (13 * permissionCount b) out in
-      let is : after ≡ joinBelow (permissionCount b) (λ p. partBytes (smallestOf b at p) (d .chosen p)) ++ rest = d .bytes ∙ rw e in
+      let is : after ≡ joinBelow (permissionCount b) (λ p. partBytes (smallestOf b at p) (d .chosen p)) ++ rest =
+      d .bytes ∙ rw e in
       let answer : r ≡ record { refusal = 0; count = releasable b at } = d .answer ∙ rw e in
-      let number : (p : ℕ) → p < permissionCount b → numberFor after p ≡ smallestOf b at p = λ p l. rw is (number-at (smallestOf b at) (d .chosen) (permissionCount b) rest (λ q m. at-most-six b at q) (λ q m. shown q m .number) p l) in
-      let group : (p : ℕ) → p < permissionCount b → groupFor after p ≡ d .chosen p = λ p l. rw is (group-at (smallestOf b at) (d .chosen) (permissionCount b) rest (λ q m. at-most-six b at q) (λ q m. shown q m .number) p l) in
+      let few : (q : ℕ) → q < permissionCount b → smallestOf b at q ≤ 6 = λ q m. at-most-six b at q in
+      let size : (q : ℕ) → q < permissionCount b → length (d .chosen q) ≡ 2 * smallestOf b at q =
+      λ q m. shown q m .number in
+      let number : (p : ℕ) → p < permissionCount b → numberFor after p ≡ smallestOf b at p =
+      λ p l. rw is (number-at (smallestOf b at) (d .chosen) (permissionCount b) rest few size p l) in
+      let group : (p : ℕ) → p < permissionCount b → groupFor after p ≡ d .chosen p =
+      λ p l. rw is (group-at (smallestOf b at) (d .chosen) (permissionCount b) rest few size p l) in
       record {
         done = ap (λ (a : Answer). a .refusal) answer;
         carries =
@@ -68,8 +73,12 @@ module _ (b : List ℕ) (at : Context) where
         count = ap (λ (a : Answer). a .count) answer;
       }
     where
-      users-of : (p : ℕ) → p < permissionCount b → ((q : ℕ) → q < permissionCount b → ShownFor b at q (d .chosen q)) → 0 < smallestOf b at p → userNum (d .chosen p) ≡ smallestOf b at p
-      users-of p l shown some = granted-users b at p (d .chosen p) (shown p l .granted some) ∙ (let n = shown p l .number in omega arith)
+      users-of : (p : ℕ) → p < permissionCount b →
+          ((q : ℕ) → q < permissionCount b → ShownFor b at q (d .chosen q)) → 0 < smallestOf b at p →
+          userNum (d .chosen p) ≡ smallestOf b at p
+      users-of p l shown some =
+          granted-users b at p (d .chosen p) (shown p l .granted some)
+          ∙ (let n = shown p l .number in omega arith)
 
       grantable-of : (p : ℕ) → (ltb 0 (smallestOf b at p) ≡ true) ↔ Grantable b at p
       grantable-of p = (

@@ -1,9 +1,9 @@
 -- The parts of the permissions, one behind the other in the buffer.
 use Prim.Native.Nat.{ℕ, _+_, _-_, _*_, _<_, _≤_}
-use mathlib.Core.Bool.{Bool, true, false, cond}
+use mathlib.Core.Bool.{cond}
 use mathlib.Core.Path.{_≡_, refl, sym, ap, _∙_}
 use mathlib.Core.Logic.{_⊎_, ⊎-elim}
-use mathlib.Core.List.{List, [], _∷_, _++_, append-assoc}
+use mathlib.Core.List.{List, [], _++_, append-assoc}
 use native.Mathlib.Omega.{arith}
 use native.Mathlib.Nat.{eq-or-lt-of-le, le-of-suc-le-suc, not-suc-le-zero}
 use native.Mathlib.Numerals.{add-one}
@@ -35,11 +35,17 @@ module _ (b : List ℕ) (at : Context) where
   abbrev parts : (ℕ → List ℕ) → ℕ → List ℕ
   parts chosen n = joinBelow n (λ p. partBytes (smallestOf b at p) (chosen p))
 
-  pub done-length : (chosen : ℕ → List ℕ) (n : ℕ) → ((p : ℕ) → p < n → ShownFor b at p (chosen p)) → length (parts chosen n) ≡ 13 * n
-  done-length chosen n shown = parts-length (λ p. partBytes (smallestOf b at p) (chosen p)) n (λ p l. part-13 p (chosen p) (shown p l))
+  pub done-length : (chosen : ℕ → List ℕ) (n : ℕ) → ((p : ℕ) → p < n → ShownFor b at p (chosen p)) →
+      length (parts chosen n) ≡ 13 * n
+  done-length chosen n shown =
+      parts-length (λ p. partBytes (smallestOf b at p) (chosen p)) n (λ p l. part-13 p (chosen p) (shown p l))
 
   pub filled-none : (out : List ℕ) → Filled b at 0 out out
-  filled-none out = record { chosen = λ p. []; shown = λ p l. absurd (not-suc-le-zero l); bytes = rw (join-none (λ p. partBytes (smallestOf b at p) [])) }
+  filled-none out = record {
+    chosen = λ p. [];
+    shown = λ p l. absurd (not-suc-le-zero l);
+    bytes = rw (join-none (λ p. partBytes (smallestOf b at p) []));
+  }
 
   -- the groups chosen, with that of one permission more
   abbrev also : (ℕ → List ℕ) → ℕ → List ℕ → ℕ → List ℕ
@@ -50,6 +56,19 @@ module _ (b : List ℕ) (at : Context) where
 
   also-other : (chosen : ℕ → List ℕ) (p : ℕ) (g : List ℕ) (q : ℕ) → q < p → also chosen p g q ≡ chosen q
   also-other chosen p g q l = rw (ne-eqb q p (λ e. omega arith))
+
+  -- the parts with that of one permission more
+  parts-more : (chosen : ℕ → List ℕ) (p : ℕ) (g part : List ℕ) → part ≡ partBytes (smallestOf b at p) g →
+      parts (also chosen p g) (p + 1) ≡ parts chosen p ++ part
+  parts-more chosen p g part is =
+      join-more (λ q. partBytes (smallestOf b at q) (also chosen p g q)) p
+      ∙ rw (also-here chosen p g p refl, ← is) (ap (λ (l : List ℕ). l ++ part) before)
+    where
+      before : parts (also chosen p g) p ≡ parts chosen p
+      before =
+          join-same (λ q. partBytes (smallestOf b at q) (also chosen p g q))
+          (λ q. partBytes (smallestOf b at q) (chosen q)) p
+          (λ q l. ap (λ (x : List ℕ). partBytes (smallestOf b at q) x) (also-other chosen p g q l))
 
   pub filled-more : (p : ℕ) (was out part : List ℕ) → Filled b at p was out → PartFor b at p part →
       13 * p + 13 ≤ length out → Filled b at (p + 1) was (putMid (13 * p) (13 * p + 13 - 13 * p) out part)
@@ -67,15 +86,16 @@ module _ (b : List ℕ) (at : Context) where
         let len : length done ≡ a = done-length (f .chosen) p (f .shown) in
         let front : take a out ≡ done = rw (f .bytes) (take-at done (drop a was) a len) in
         let back : drop a out ≡ drop a was = rw (f .bytes) (drop-at done (drop a was) a len) in
-        let post : postOf a (e - a) out ≡ drop e was = post-is a e out (omega arith) ∙ sym (drop-drop 13 a out) ∙ ap (λ (l : List ℕ). drop 13 l) back ∙ drop-drop 13 a was in
-        let more : parts (also (f .chosen) p (this .group)) (p + 1) ≡ done ++ part =
-        join-more (λ q. partBytes (smallestOf b at q) (also (f .chosen) p (this .group) q)) p
-        ∙ rw (also-here (f .chosen) p (this .group) p refl, ← this .bytes) (ap (λ (l : List ℕ). l ++ part) (join-same (λ q. partBytes (smallestOf b at q) (also (f .chosen) p (this .group) q)) (λ q. partBytes (smallestOf b at q) (f .chosen q)) p (λ q l. ap (λ (x : List ℕ). partBytes (smallestOf b at q) x) (also-other (f .chosen) p (this .group) q l)))) in
+        let post : postOf a (e - a) out ≡ drop e was =
+        post-is a e out (omega arith) ∙ sym (drop-drop 13 a out) ∙ ap (λ (l : List ℕ). drop 13 l) back
+        ∙ drop-drop 13 a was in
+        let more = parts-more (f .chosen) p (this .group) part (this .bytes) in
         rw (front, post, next, more) (sym (append-assoc done part (drop e was)));
   }
 
   -- the count with one permission more
-  pub count-part : (p : ℕ) (part : List ℕ) (count more : ℕ) → PartFor b at p part → count ≡ countBelow p (λ q. ltb 0 (smallestOf b at q)) →
+  pub count-part : (p : ℕ) (part : List ℕ) (count more : ℕ) → PartFor b at p part →
+      count ≡ countBelow p (λ q. ltb 0 (smallestOf b at q)) →
       more ≡ cond (ltb 0 (getD part 0 0)) 1 0 → count + more ≡ countBelow (p + 1) (λ q. ltb 0 (smallestOf b at q))
   count-part p part count more this e f =
       let k : getD part 0 0 ≡ smallestOf b at p = ap (λ (l : List ℕ). getD l 0 0) (this .bytes) in

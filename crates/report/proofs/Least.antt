@@ -1,4 +1,5 @@
--- The law of the smallest number: 0 exactly where no list whatever is granted; else some granted list has that many entries, and none has fewer.
+-- The law of the smallest number: 0 exactly where no list whatever is granted; else some granted list has that many
+-- entries, and none has fewer.
 use Prim.Native.Nat.{ℕ, zero, suc, _+_, _*_, _/_, _%_, _<_, _≤_}
 use mathlib.Core.Bool.{Bool, true, false, cond}
 use mathlib.Core.Path.{_≡_, refl, sym, _∙_}
@@ -54,13 +55,16 @@ some-of : (granted : List ℕ → Bool) (t : List ℕ) → granted t ≡ true �
 unfolding someGranted
 some-of granted t h byte zero l = h
 some-of granted t h byte (suc n) l =
-    any-found (λ u. anyBelow 256 (λ r. someGranted granted n (u ∷ r ∷ drop (2 * suc n) t))) 256 (getD t (2 * n) 0) (byte (2 * n) (omega arith))
-    (any-found (λ r. someGranted granted n (getD t (2 * n) 0 ∷ r ∷ drop (2 * suc n) t)) 256 (getD t (2 * n + 1) 0) (byte (2 * n + 1) (omega arith))
+    let user = getD t (2 * n) 0 in
+    let role = getD t (2 * n + 1) 0 in
+    let rest = drop (2 * suc n) t in
+    any-found (λ u. anyBelow 256 (λ r. someGranted granted n (u ∷ r ∷ rest))) 256 user (byte (2 * n) (omega arith))
+    (any-found (λ r. someGranted granted n (user ∷ r ∷ rest)) 256 role (byte (2 * n + 1) (omega arith))
     (rw (← entry-before t n l) (some-of granted t h byte n (omega arith))))
 
 -- a granted list of n entries of bytes is found
-some-found : (granted : List ℕ → Bool) → OfBytes granted → (t : List ℕ) → granted t ≡ true → (n : ℕ) → length t ≡ 2 * n →
-    someGranted granted n [] ≡ true
+some-found : (granted : List ℕ → Bool) → OfBytes granted → (t : List ℕ) → granted t ≡ true → (n : ℕ) →
+    length t ≡ 2 * n → someGranted granted n [] ≡ true
 some-found granted d t h n e =
     let l : length t ≤ 2 * n = omega arith in
     rw (drop-of-length-le t l) at (some-of granted t h (d .byte t h) n (omega arith))
@@ -70,7 +74,8 @@ abbrev found : (List ℕ → Bool) → ℕ → Bool
 found granted i = someGranted granted (suc i) []
 
 -- where the first i lies below 6, the smallest number is one more
-smallest-first : (granted : List ℕ → Bool) → firstBelow 6 (found granted) < 6 → smallest granted ≡ suc (firstBelow 6 (found granted))
+smallest-first : (granted : List ℕ → Bool) → firstBelow 6 (found granted) < 6 →
+    smallest granted ≡ suc (firstBelow 6 (found granted))
 unfolding smallest
 smallest-first granted l = rw (lt-ltb _ _ l)
 
@@ -79,17 +84,20 @@ first-below : (granted : List ℕ → Bool) → 0 < smallest granted → firstBe
 unfolding smallest
 first-below granted = by (ltb (firstBelow 6 (found granted)) 6) refl
   where
-    by : (b : Bool) → ltb (firstBelow 6 (found granted)) 6 ≡ b → 0 < cond b (suc (firstBelow 6 (found granted))) 0 → firstBelow 6 (found granted) < 6
+    by : (b : Bool) → ltb (firstBelow 6 (found granted)) 6 ≡ b → 0 < cond b (suc (firstBelow 6 (found granted))) 0 →
+        firstBelow 6 (found granted) < 6
     by true e h = ltb-true _ _ e
     by false e h = absurd (lt-irrefl 0 h)
 
 -- the smallest number is at most 6
 pub smallest-six : (granted : List ℕ → Bool) → smallest granted ≤ 6
 smallest-six granted =
-    ⊎-elim (λ z. omega arith) (λ l. let h = first-below granted l in let e = smallest-first granted h in omega arith) (eq-zero-or-pos (smallest granted))
+    ⊎-elim (λ z. omega arith) (λ l. let h = first-below granted l in let e = smallest-first granted h in omega arith)
+    (eq-zero-or-pos (smallest granted))
 
 -- some granted list has the smallest number of entries, where it is above 0
-pub smallest-shown : (granted : List ℕ → Bool) → 0 < smallest granted → (t : List ℕ) × (granted t ≡ true) × (length t ≡ 2 * smallest granted)
+pub smallest-shown : (granted : List ℕ → Bool) → 0 < smallest granted →
+    (t : List ℕ) × (granted t ≡ true) × (length t ≡ 2 * smallest granted)
 smallest-shown granted h =
     let l = first-below granted h in
     let e = smallest-first granted l in
@@ -109,19 +117,23 @@ smallest-least granted d t h =
     by (suc i) low high e f =
         let l = first-lt (found granted) 6 (any-found (found granted) 6 i high f) in
         let q = smallest-first granted l in
-        let m : firstBelow 6 (found granted) < suc i = lt-of-not-le (λ k. clash (found granted i) f (first-least (found granted) 6 i k)) in
+        let m : firstBelow 6 (found granted) < suc i =
+        lt-of-not-le (λ k. clash (found granted i) f (first-least (found granted) 6 i k)) in
         (omega arith, omega arith)
 
 -- where a number that is least is 0, no list is granted
-none-granted : (granted : List ℕ → Bool) (k : ℕ) → ((t : List ℕ) → granted t ≡ true → (0 < k) × (2 * k ≤ length t)) → k ≡ 0 →
-    (t : List ℕ) → granted t ≡ false
-none-granted granted k least z t = ⊎-elim (λ h. let l = least t h .0 in absurd (omega arith)) (λ h. h) (met-or-not (granted t))
+none-granted : (granted : List ℕ → Bool) (k : ℕ) → ((t : List ℕ) → granted t ≡ true → (0 < k) × (2 * k ≤ length t)) →
+    k ≡ 0 → (t : List ℕ) → granted t ≡ false
+none-granted granted k least z t =
+    ⊎-elim (λ h. let l = least t h .0 in absurd (omega arith)) (λ h. h) (met-or-not (granted t))
 
 -- the smallest number is 0 exactly where no list whatever is granted
-pub smallest-zero : (granted : List ℕ → Bool) → OfBytes granted → (smallest granted ≡ 0) ↔ ((t : List ℕ) → granted t ≡ false)
+pub smallest-zero : (granted : List ℕ → Bool) → OfBytes granted →
+    (smallest granted ≡ 0) ↔ ((t : List ℕ) → granted t ≡ false)
 smallest-zero granted d = (
   none-granted granted (smallest granted) (smallest-least granted d),
-  λ none. ⊎-elim (λ z. z) (λ l. let (t, h, _) = smallest-shown granted l in clash (granted t) h (none t)) (eq-zero-or-pos (smallest granted)),
+  λ none. ⊎-elim (λ z. z) (λ l. let (t, h, _) = smallest-shown granted l in clash (granted t) h (none t))
+      (eq-zero-or-pos (smallest granted)),
 )
 
 -- a number that is least is at most one that is shown
@@ -143,14 +155,17 @@ smallest-is granted d k shown least =
     both l =
         let (t, h, _) = shown l in
         let m = smallest-least granted d t h .0 in
-        le-antisymm (at-most granted k (smallest granted) least (smallest-shown granted) m) (at-most granted (smallest granted) k (smallest-least granted d) shown l)
+        le-antisymm (at-most granted k (smallest granted) least (smallest-shown granted) m)
+        (at-most granted (smallest granted) k (smallest-least granted d) shown l)
 
 -- a list of n entries holds bytes where each entry's two numbers are bytes
 bytes-of : (t : List ℕ) (n : ℕ) → length t ≡ 2 * n →
-    ((j : ℕ) → j < n → getD t (2 * j) 0 < 256) → ((j : ℕ) → j < n → getD t (2 * j + 1) 0 < 256) → (i : ℕ) → i < length t → getD t i 0 < 256
+    ((j : ℕ) → j < n → getD t (2 * j) 0 < 256) → ((j : ℕ) → j < n → getD t (2 * j + 1) 0 < 256) →
+    (i : ℕ) → i < length t → getD t i 0 < 256
 bytes-of t n e user role i l =
     let m : i / 2 < n = omega arith in
-    ⊎-elim (λ z. even (eqb-true _ _ z) (user (i / 2) m)) (λ z. odd (eqb-false _ _ z) (role (i / 2) m)) (met-or-not (eqb (i % 2) 0))
+    ⊎-elim (λ z. even (eqb-true _ _ z) (user (i / 2) m)) (λ z. odd (eqb-false _ _ z) (role (i / 2) m))
+    (met-or-not (eqb (i % 2) 0))
   where
     even : i % 2 ≡ 0 → getD t (2 * (i / 2)) 0 < 256 → getD t i 0 < 256
     even z h = let q : 2 * (i / 2) ≡ i = omega arith in rw q at h
@@ -171,5 +186,6 @@ of-decision b at p = record {
       let f = accepted-frame b ok in
       let U = users-le b f in
       let R = roles-range b f .1 in
-      bytes-of t (entryCount t) (w .whole) (λ j l. let k = w .user j l in omega arith) (λ j l. let k = w .role j l in omega arith);
+      bytes-of t (entryCount t) (w .whole) (λ j l. let k = w .user j l in omega arith)
+      (λ j l. let k = w .role j l in omega arith);
 }

@@ -20,7 +20,8 @@ module _ (f : ℕ → List ℕ) where
   pub parts-length : (n : ℕ) → ((p : ℕ) → p < n → length (f p) ≡ 13) → length (joinBelow n f) ≡ 13 * n
   unfolding joinBelow
   parts-length zero h = refl
-  parts-length (suc n) h = rw (length-append, parts-length n (λ p l. h p (omega arith)), h n (omega arith)) (omega arith)
+  parts-length (suc n) h =
+      rw (length-append, parts-length n (λ p l. h p (omega arith)), h n (omega arith)) (omega arith)
 
   -- from place 13 * p on stands part p
   part-at : (n : ℕ) (rest : List ℕ) → ((p : ℕ) → p < n → length (f p) ≡ 13) → (p : ℕ) → p < n →
@@ -37,13 +38,16 @@ module _ (f : ℕ → List ℕ) where
 -- what the buffer carries for permission p, where part p holds the number k and the group g
 module _ (l : List ℕ) (p k : ℕ) (g tail : List ℕ) (here : drop (13 * p) l ≡ partBytes k g ++ tail) where
   pub number-is : numberFor l p ≡ k
-  number-is = ap (λ (i : ℕ). getD l i 0) (sym (add-zero (13 * p))) ∙ sym (getD-drop (13 * p) l 0 0) ∙ ap (λ (x : List ℕ). getD x 0 0) here
+  number-is =
+      ap (λ (i : ℕ). getD l i 0) (sym (add-zero (13 * p))) ∙ sym (getD-drop (13 * p) l 0 0)
+      ∙ ap (λ (x : List ℕ). getD x 0 0) here
 
   pub group-is : length g ≡ 2 * k → groupFor l p ≡ g
   group-is e =
+      let fill : List ℕ = replicate (12 - 2 * k) 255 in
       ap (λ (n : ℕ). take (2 * n) (drop (13 * p + 1) l)) number-is
-      ∙ ap (take (2 * k)) (sym (drop-drop 1 (13 * p) l) ∙ ap (drop 1) here ∙ append-assoc g (replicate (12 - 2 * k) 255) tail)
-      ∙ take-at g (replicate (12 - 2 * k) 255 ++ tail) (2 * k) e
+      ∙ ap (take (2 * k)) (sym (drop-drop 1 (13 * p) l) ∙ ap (drop 1) here ∙ append-assoc g fill tail)
+      ∙ take-at g (fill ++ tail) (2 * k) e
 
 -- what the buffer carries for each permission
 module _ (number : ℕ → ℕ) (group : ℕ → List ℕ) (n : ℕ) (rest : List ℕ)
@@ -51,12 +55,18 @@ module _ (number : ℕ → ℕ) (group : ℕ → List ℕ) (n : ℕ) (rest : Lis
   abbrev buffer : List ℕ
   buffer = joinBelow n (λ p. partBytes (number p) (group p)) ++ rest
 
+  -- from place 13 * p on stands the part of p
+  stands : (p : ℕ) → p < n → (tail : List ℕ) × (drop (13 * p) buffer ≡ partBytes (number p) (group p) ++ tail)
+  stands =
+      part-at (λ p. partBytes (number p) (group p)) n rest
+      (λ p l. part-length (number p) (group p) (few p l) (size p l))
+
   pub number-at : (p : ℕ) → p < n → numberFor buffer p ≡ number p
   number-at p l =
-      let (tail, here) = part-at (λ p. partBytes (number p) (group p)) n rest (λ p l. part-length (number p) (group p) (few p l) (size p l)) p l in
+      let (tail, here) = stands p l in
       number-is buffer p (number p) (group p) tail here
 
   pub group-at : (p : ℕ) → p < n → groupFor buffer p ≡ group p
   group-at p l =
-      let (tail, here) = part-at (λ p. partBytes (number p) (group p)) n rest (λ p l. part-length (number p) (group p) (few p l) (size p l)) p l in
+      let (tail, here) = stands p l in
       group-is buffer p (number p) (group p) tail here (size p l)

@@ -20,12 +20,14 @@ use Rattle.report.specs.Demand.{userNum}
 use Rattle.report.proofs.Least.{users-le}
 
 -- a test met by one number more holds of one more
-count-added : (N : ℕ) (p q : ℕ → Bool) (v : ℕ) → v < N → p v ≡ false → ((u : ℕ) → q u ≡ (p u || eqb v u)) → countBelow N q ≡ suc (countBelow N p)
+count-added : (N : ℕ) (p q : ℕ → Bool) (v : ℕ) → v < N → p v ≡ false → ((u : ℕ) → q u ≡ (p u || eqb v u)) →
+    countBelow N q ≡ suc (countBelow N p)
 unfolding countBelow
 count-added N p q v l new e =
     let a = sum-pick (λ u. cond (p u) 1 0) N v l in
     let b = sum-pick (λ u. cond (q u) 1 0) N v l in
-    let s = sum-same (λ u. cond (eqb u v) 0 (cond (q u) 1 0)) (λ u. cond (eqb u v) 0 (cond (p u) 1 0)) N (λ u _. others u) in
+    let s = sum-same (λ u. cond (eqb u v) 0 (cond (q u) 1 0)) (λ u. cond (eqb u v) 0 (cond (p u) 1 0)) N
+    (λ u _. others u) in
     rw (a, b, s, e v, new, eq-eqb v v refl) (omega arith)
   where
     others : (u : ℕ) → cond (eqb u v) 0 (cond (q u) 1 0) ≡ cond {A = ℕ} (eqb u v) 0 (cond (p u) 1 0)
@@ -38,7 +40,8 @@ count-values : (N : ℕ) (f : ℕ → ℕ) (n : ℕ) → ((i : ℕ) → i < n �
 unfolding countBelow anyBelow
 count-values N f zero low different = sum-zero (λ u. 0) N (λ u l. refl)
 count-values N f (suc n) low different =
-    count-added N (λ u. anyBelow n (λ i. eqb (f i) u)) (λ u. anyBelow (suc n) (λ i. eqb (f i) u)) (f n) (low n (omega arith))
+    count-added N (λ u. anyBelow n (λ i. eqb (f i) u)) (λ u. anyBelow (suc n) (λ i. eqb (f i) u)) (f n)
+    (low n (omega arith))
     (any-each (λ i. eqb (f i) (f n)) n (λ i l. ne-eqb (f i) (f n) (different i n l (omega arith))))
     (λ u. refl)
     ∙ ap suc (count-values N f n (λ i l. low i (omega arith)) (λ i j l m. different i j l (omega arith)))
@@ -50,7 +53,8 @@ unfolding userNum
 users-all g = count-values 256 (entryUser g) (entryCount g)
 
 -- a granted group has as many users as entries
-pub granted-users : (b : List ℕ) (at : Context) (p : ℕ) (g : List ℕ) → decisionOf b at p g ≡ 0 → userNum g ≡ entryCount g
+pub granted-users : (b : List ℕ) (at : Context) (p : ℕ) (g : List ℕ) → decisionOf b at p g ≡ 0 →
+    userNum g ≡ entryCount g
 granted-users b at p g h =
     let (ok, _, _, w) = granted-by b at p g .0 h in
     let few = users-le b (accepted-frame b ok) in

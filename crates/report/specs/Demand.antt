@@ -23,7 +23,8 @@ numberFor out p = getD out (13 * p) 0
 abbrev pub groupFor : List ℕ → ℕ → List ℕ
 groupFor out p = take (2 * numberFor out p) (drop (13 * p + 1) out)
 
--- the number of users of a group: of how many numbers below 256 an entry has that user; those of a granted group are below 24
+-- the number of users of a group: of how many numbers below 256 an entry has that user; those of a granted group are
+-- below 24
 unfoldable pub userNum : List ℕ → ℕ
 userNum g = countBelow 256 (λ u. anyBelow (entryCount g) (λ i. eqb (entryUser g i) u))
 
@@ -50,4 +51,5 @@ pub record Demand3 (b : List ℕ) (at : Context) (out : List ℕ) (r : Answer) :
 
 -- what is demanded of the call: demand 3, where none of refusals 1 to 9, 11 and 19 applies
 abbrev pub Demanded : List ℕ → Context → List ℕ → List ℕ → Answer → Type 0
-Demanded b at out after r = refusalOf b ≡ 0 → outOfRange at ≡ false → 13 * permissionCount b ≤ length out → Demand3 b at after r
+Demanded b at out after r =
+    refusalOf b ≡ 0 → outOfRange at ≡ false → 13 * permissionCount b ≤ length out → Demand3 b at after r

@@ -29,9 +29,12 @@ releasable b at = countBelow (permissionCount b) (λ p. ltb 0 (smallestOf b at p
 -- the answer: a refusal carries 0
 unfoldable pub reportAnswer : List ℕ → Context → ℕ → Answer
 reportAnswer b at n =
-    cond (eqb (reportRefusal b at n) 0) (record { refusal = 0; count = releasable b at }) (record { refusal = reportRefusal b at n; count = 0 })
+    cond (eqb (reportRefusal b at n) 0)
+    (record { refusal = 0; count = releasable b at })
+    (record { refusal = reportRefusal b at n; count = 0 })
 
--- the bytes g are a group to be shown for permission p: a smallest one, by strictly rising user; empty where none is granted
+-- the bytes g are a group to be shown for permission p: a smallest one, by strictly rising user; empty where none is
+-- granted
 pub record ShownFor (b : List ℕ) (at : Context) (p : ℕ) (g : List ℕ) : Type 0 where
   pub number : length g ≡ 2 * smallestOf b at p
   pub granted : 0 < smallestOf b at p → decisionOf b at p g ≡ 0
@@ -41,7 +44,8 @@ pub record ShownFor (b : List ℕ) (at : Context) (p : ℕ) (g : List ℕ) : Typ
 abbrev pub partBytes : ℕ → List ℕ → List ℕ
 partBytes k g = k ∷ (g ++ replicate (12 - 2 * k) 255)
 
--- the buffer afterwards, with the group chosen for each permission: the parts in order, and the bytes behind them as they were; no refusal writes
+-- the buffer afterwards, with the group chosen for each permission: the parts in order, and the bytes behind them as
+-- they were; no refusal writes
 unfoldable pub reportBytes : List ℕ → Context → (ℕ → List ℕ) → List ℕ → List ℕ
 reportBytes b at chosen out =
     cond (eqb (reportRefusal b at (length out)) 0)

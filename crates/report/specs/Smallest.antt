@@ -15,7 +15,9 @@ someGranted granted (suc n) g = anyBelow 256 (λ u. anyBelow 256 (λ r. someGran
 -- the least n from 1 to 6 such that some group of n entries is granted, else 0
 unfoldable pub smallest : (List ℕ → Bool) → ℕ
 smallest granted =
-    cond (ltb (firstBelow 6 (λ i. someGranted granted (suc i) [])) 6) (suc (firstBelow 6 (λ i. someGranted granted (suc i) []))) 0
+    cond (ltb (firstBelow 6 (λ i. someGranted granted (suc i) [])) 6)
+    (suc (firstBelow 6 (λ i. someGranted granted (suc i) [])))
+    0
 
 -- the smallest number of approvers for permission p: the decider, asked about every possible group
 unfoldable pub smallestOf : List ℕ → Context → ℕ → ℕ

@@ -9,9 +9,9 @@ mod parts;
 pub mod search;
 mod weighing;
 
-// Entry point: writes for each permission the number k of approvers, k entries by rising user, and 255 in every byte left
-// of 13; later bytes keep their contents. The count is the number of permissions with k above 0. Refusals 1 to 9, 11 and
-// 19 carry 0 and write nothing. It needs about 30,000 bytes of stack.
+// Entry point: writes for each permission the number k of approvers, k entries by rising user, and 255 in every byte
+// left of 13; later bytes keep their contents. The count is the number of permissions with k above 0. Refusals 1 to 9,
+// 11 and 19 carry 0 and write nothing. It needs about 30,000 bytes of stack.
 pub fn report(base: &[u8], at: Context, out: &mut [u8]) -> Answer
     ensures promise { λ r. ⌜ Reported (now (base .entry)) at (now (out .entry)) (now (out .exit)) r ⌝ }
     ensures demand { λ r. ⌜ Demanded (now (base .entry)) at (now (out .entry)) (now (out .exit)) r ⌝ }

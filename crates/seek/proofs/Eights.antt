@@ -118,8 +118,8 @@ module _ {test : ℕ → Bool} {from x : ℕ} (none : (y : ℕ) → from ≤ y �
   }
 
 -- fewer places have room where more have
-pub fewer : {room k : ℕ} {ends sums roles by-sum by-set : List ℕ} → Tables room ends sums roles by-sum by-set → k ≤ room →
-    Tables k ends sums roles by-sum by-set
+pub fewer : {room k : ℕ} {ends sums roles by-sum by-set : List ℕ} → Tables room ends sums roles by-sum by-set →
+    k ≤ room → Tables k ends sums roles by-sum by-set
 fewer t h =
     let a = t .ends-room in
     let b = t .sums-room in

@@ -1,10 +1,20 @@
+-- `main` meets its contract: what is written lies within the buffer.
 use mathlib.Core.Path.{sym}
 use native.Mathlib.Omega.{arith}
+use Prim.Native.Nat.{_≤_}
+use borrow.Author.Needs.{needs}
+use lib.ListN.{length}
 use lib.Seq.{length-take-le}
 use Rattle.release_list.proofs.Whole.{whole-within}
-use borrow.Author.Needs.{needs}
 use Rattle.release_list.proofs.main.Statement.{statement}
 use Rattle.release_list.proofs.main.Tie as tie
+
+abbrev bytes-read : tie.After-out → tie.After-read-full
+bytes-read c = c .before .before .before
+
+-- the text lies within the buffer
+within : (c : tie.After-listing) → c .listing .result ≤ length (c .listing .last .1 .1 .0)
+within c = whole-within (bytes-read (c .before) .read-full .ensures .0) (c .listing .ensures)
 
 slice-aggregate-read-full : tie.Need-slice-aggregate-read-full
 slice-aggregate-read-full c = search needs
@@ -22,10 +32,10 @@ listing-requires : tie.Need-listing-requires
 listing-requires c κs = (omega arith, omega arith, search needs)
 
 array-share-prefix-out : tie.Need-array-share-prefix-out
-array-share-prefix-out c = whole-within (c .before .before .before .before .before .read-full .ensures .0) (c .before .listing .ensures)
+array-share-prefix-out c = within (c .before)
 
 slice-aggregate-write-all : tie.Need-slice-aggregate-write-all
-slice-aggregate-write-all c = sym (length-take-le _ _ (whole-within (c .before .before .before .before .before .before .read-full .ensures .0) (c .before .before .listing .ensures)))
+slice-aggregate-write-all c = sym (length-take-le _ _ (within (c .before .before)))
 
 write-all-requires : tie.Need-write-all-requires
 write-all-requires c κs = search needs

@@ -30,7 +30,8 @@ turn-more {n} {r} {low} {q} {x} {a} t l is = record {
   within = omega arith;
   size = length-set a q x ∙ t .size;
   below = λ k h m. stored a q x (λ k y. k < r → y ≡ low) there (λ k l h. t .below k h l) (is .0) k m h;
-  above = λ k h m. stored a q x (λ k y. r ≤ k → y ≡ starts (suc (suc n)) k) there (λ k l h. t .above k h l) (is .1) k m h;
+  above =
+      λ k h m. stored a q x (λ k y. r ≤ k → y ≡ starts (suc (suc n)) k) there (λ k l h. t .above k h l) (is .1) k m h;
   most = stored a q x (λ k y. y ≤ 3003) there (t .most) (is .2);
 }
   where

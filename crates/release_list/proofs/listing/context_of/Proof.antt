@@ -1,3 +1,4 @@
+-- `context_of` meets its contract: each field is read at its place.
 use native.Mathlib.Omega.{arith}
 use Rattle.release_list.specs.Text.{contextOf}
 use borrow.Author.Needs.{needs}

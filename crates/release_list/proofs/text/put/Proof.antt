@@ -1,3 +1,4 @@
+-- `put` meets its contract: each turn stores one byte more.
 use Prim.Native.Nat.{_-_, _≤_}
 use mathlib.Core.Path.{_≡_, refl, ap, _∙_}
 use native.Mathlib.Omega.{arith}
@@ -46,7 +47,9 @@ same-length : tie.Need-same-length Inv-loop μ-loop
 same-length c = long (c .before)
 
 returns : tie.Need-returns Inv-loop μ-loop
-returns c = let e : c .before .loop .i ≡ length (c .before .before .args .bytes .now) = omega arith in record { place = refl; bytes = c .before .loop .inv .1 ∙ rw (e, take-length) }
+returns c =
+    let e : c .before .loop .i ≡ length (c .before .before .args .bytes .now) = omega arith in
+    record { place = refl; bytes = c .before .loop .inv .1 ∙ rw (e, take-length) }
 
 pub put-spec : {M : Type 1} → statement M
 put-spec =

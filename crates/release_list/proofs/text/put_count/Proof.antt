@@ -1,43 +1,55 @@
-use Prim.Native.Nat.{_+_}
+-- `put_count` meets its contract: the line's end is written behind the words and the number.
+use Prim.Native.Nat.{ℕ, _+_}
 use mathlib.Core.Path.{_≡_}
+use mathlib.Core.List.{List}
 use native.Mathlib.Omega.{arith}
-use lib.ListN.{length}
-use Rattle.release_list.specs.Text.{decimal, countText}
-use Rattle.release_list.proofs.Stores.{joined}
-use Rattle.release_list.proofs.Sizes.{count-length}
 use borrow.Author.Needs.{needs}
+use lib.ListN.{length, length-append}
+use Rattle.release_list.specs.Text.{decimal, countText}
+use Rattle.release_list.proofs.Sizes.{count-length}
+use Rattle.release_list.proofs.Stores.{count-written}
 use Rattle.release_list.proofs.text.put_count.Statement.{statement}
 use Rattle.release_list.proofs.text.put_count.Tie as tie
 
-size : (c : tie.Start) → length (countText (c .args .words .now) (c .args .n)) ≡ length (c .args .words .now) + length (decimal (c .args .n)) + 1
-size c = count-length (c .args .words .now) (c .args .n)
+-- the entry
+module _ (s : tie.Start) where
+  abbrev words : List ℕ
+  words = s .args .words .now
 
-put-requires : tie.Need-put-requires
-put-requires c κs = omega (arith, size (c .before .before .before))
+  abbrev n : ℕ
+  n = s .args .n
 
-put-decimal-requires : tie.Need-put-decimal-requires
-put-decimal-requires c κs = omega (arith, size (c .before .before .before .before .before .before .before))
+  size : length (countText words n) ≡ length words + length (decimal n) + 1
+  size = count-length words n
+
+-- the places: each call from the one behind it
+abbrev entered : tie.After-put-number-arg → tie.Start
+entered c = c .before .before .before
+
+abbrev number-put : tie.After-put-arg2 → tie.After-put-number
+number-put c = c .before .before .before .before
+
+put-number-requires : tie.Need-put-number-requires
+put-number-requires c κs = omega (arith, size (entered c))
 
 slice-aggregate-put : tie.Need-slice-aggregate-put
 slice-aggregate-put c = search needs
 
-put-requires-2 : tie.Need-put-requires-2
-put-requires-2 c κs = omega (arith, size (c .before .before .before .before .before .before .before .before .before .before .before .before))
+put-requires : tie.Need-put-requires
+put-requires c κs =
+    let s = entered (number-put c .before) in
+    omega (arith, size s, length-append (words s) (decimal (n s)))
 
 same-length : tie.Need-same-length
 same-length c = search needs
 
 returns : tie.Need-returns
-unfolding countText
-returns c = joined (c .before .before .before .before .before .before .before .before .before .before .before .put .ensures) (joined (c .before .before .before .before .before .before .before .put-decimal .ensures) (c .before .before .put2 .ensures))
+returns c =
+    let end = c .before .before in
+    let number = number-put (end .before) in
+    let s = entered (number .before) in
+    count-written (words s) (n s) (number .put-number .ensures) (end .put .ensures)
 
 pub put-count-spec : {M : Type 1} → statement M
 put-count-spec =
-    tie.close
-    (tie.spec
-    put-requires
-    put-decimal-requires
-    slice-aggregate-put
-    put-requires-2
-    same-length
-    returns)
+    tie.close (tie.spec put-number-requires slice-aggregate-put put-requires same-length returns)

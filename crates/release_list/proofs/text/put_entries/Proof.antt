@@ -1,32 +1,56 @@
-use Prim.Native.Nat.{_-_, _≤_}
-use mathlib.Core.Path.{_≡_}
-use native.Mathlib.Omega.{arith}
+-- `put_entries` meets its contract: each turn writes one entry behind those before it.
+use Prim.Native.Nat.{ℕ, _-_, _<_}
+use mathlib.Core.List.{List}
 use borrow.Author.Needs.{needs}
-use Rattle.folds.specs.Below.{joinBelow}
 use Rattle.decision.specs.Groups.{entryCount}
 use Rattle.release_list.specs.Text.{entryAt}
-use Rattle.release_list.specs.Writing.{Written, standingText}
-use Rattle.release_list.proofs.Stores.{none-written, more-written, room-more, same-size}
+use Rattle.release_list.specs.Writing.{standingText}
+use Rattle.release_list.proofs.Stores.{Begun, same-size, begun-none, next-fits, begun-more, begun-all}
 use Rattle.release_list.proofs.text.put_entries.Statement.{statement}
 use Rattle.release_list.proofs.text.put_entries.Tie as tie
 
 abbrev Inv-loop : tie.InvT-loop
-Inv-loop out₀ at group next₀ i₀ i-end out next i = (i ≤ entryCount group) × Written (joinBelow i (entryAt group)) out₀ at next out
+Inv-loop out₀ at group next₀ i₀ i-end out next i = Begun (entryAt group) (entryCount group) out₀ at out next i
 
 abbrev μ-loop : tie.MeasureT-loop
 μ-loop out₀ at group next₀ i₀ i-end out next i = entryCount group - i
 
-loop-holds : tie.Need-loop-holds Inv-loop μ-loop
-loop-holds c = (search needs, none-written _ _ _)
+abbrev at-loop : tie.At-loop Inv-loop μ-loop → tie.Start Inv-loop μ-loop
+at-loop c = c .before .before .before
 
-mul-put-entry : tie.Need-mul-put-entry Inv-loop μ-loop
-mul-put-entry c = search needs
+-- what a run knows in a turn
+record Here : Type 0 where
+  start : tie.Start Inv-loop μ-loop
+  i : ℕ
+  next : ℕ
+  out : List ℕ
+  begun : Begun (entryAt (start .args .group .now)) (entryCount (start .args .group .now))
+      (start .args .out .now) (start .args .at) out next i
+  low : i < entryCount (start .args .group .now)
+
+abbrev in-loop : tie.In-loop Inv-loop μ-loop → Here
+in-loop c =
+    let l = c .before .loop in
+    record {
+      start = at-loop (c .before);
+      i = l .i;
+      next = l .next;
+      out = l .out;
+      begun = l .inv;
+      low = c .loop-test .taken;
+    }
+
+abbrev at-entry : tie.After-shared-slice-known3 Inv-loop μ-loop → Here
+at-entry c = in-loop (c .before .before .before)
+
+loop-holds : tie.Need-loop-holds Inv-loop μ-loop
+loop-holds c = begun-none _ _ _ _
+
+mul-entry : tie.Need-mul-entry Inv-loop μ-loop
+mul-entry c = search needs
 
 shared-slice-read-put-entry : tie.Need-shared-slice-read-put-entry Inv-loop μ-loop
 shared-slice-read-put-entry c = search needs
-
-mul-put-entry-2 : tie.Need-mul-put-entry-2 Inv-loop μ-loop
-mul-put-entry-2 c = search needs
 
 add-put-entry : tie.Need-add-put-entry Inv-loop μ-loop
 add-put-entry c = search needs
@@ -36,7 +60,7 @@ shared-slice-read-put-entry-2 c = search needs
 
 put-entry-requires : tie.Need-put-entry-requires Inv-loop μ-loop
 unfolding standingText
-put-entry-requires c κs = omega (arith, same-size (c .before .before .before .before .loop .inv .1), room-more (entryAt (c .before .before .before .before .before .before .before .args .group .now)) (c .before .before .before .before .loop .i) _ (c .before .before .before .loop-test .taken))
+put-entry-requires c κs = let h = at-entry c in next-fits (h .begun) (h .low) (h .start .pre)
 
 add-i : tie.Need-add-i Inv-loop μ-loop
 add-i c = search needs
@@ -45,14 +69,17 @@ loop-less : tie.Need-loop-less Inv-loop μ-loop
 loop-less c = search needs
 
 loop-again : tie.Need-loop-again Inv-loop μ-loop
-loop-again c = (search needs, more-written (entryAt (c .before .before .before .before .before .before .before .before .before .before .args .group .now)) (c .before .before .before .before .before .before .before .loop .i) (c .before .before .before .before .before .before .before .loop .inv .1) (c .before .before .put-entry .ensures))
+loop-again c =
+    let put = c .before .before in
+    let h = at-entry (put .before) in
+    begun-more (h .begun) (h .low) (put .put-entry .ensures)
 
 same-length : tie.Need-same-length Inv-loop μ-loop
-same-length c = same-size (c .before .loop .inv .1)
+same-length c = same-size (c .before .loop .inv .written)
 
 returns : tie.Need-returns Inv-loop μ-loop
 unfolding standingText
-returns c = let e : c .before .loop .i ≡ entryCount (c .before .before .before .before .args .group .now) = omega arith in rw e at (c .before .loop .inv .1)
+returns c = begun-all (c .before .loop .inv) (c .loop-test .left)
 
 pub put-entries-spec : {M : Type 1} → statement M
 put-entries-spec =
@@ -61,9 +88,8 @@ put-entries-spec =
     Inv-loop
     μ-loop
     loop-holds
-    mul-put-entry
+    mul-entry
     shared-slice-read-put-entry
-    mul-put-entry-2
     add-put-entry
     shared-slice-read-put-entry-2
     put-entry-requires

@@ -1,51 +1,62 @@
-use Prim.Native.Nat.{_+_}
+-- `put_entry` meets its contract: a slash and the role are written behind a blank and the user.
+use Prim.Native.Nat.{ℕ, _+_}
 use mathlib.Core.Path.{_≡_}
 use native.Mathlib.Omega.{arith}
+use borrow.Author.Needs.{needs}
 use lib.ListN.{length}
 use Rattle.release_list.specs.Text.{decimal, entryText}
-use Rattle.release_list.proofs.Stores.{joined}
 use Rattle.release_list.proofs.Sizes.{entry-length}
-use borrow.Author.Needs.{needs}
+use Rattle.release_list.proofs.Stores.{entry-written}
 use Rattle.release_list.proofs.text.put_entry.Statement.{statement}
 use Rattle.release_list.proofs.text.put_entry.Tie as tie
 
-size : (c : tie.Start) → length (entryText (c .args .user) (c .args .role)) ≡ length (decimal (c .args .user)) + length (decimal (c .args .role)) + 2
-size c = entry-length (c .args .user) (c .args .role)
+-- the entry
+module _ (s : tie.Start) where
+  abbrev user : ℕ
+  user = s .args .user
 
-slice-aggregate-put : tie.Need-slice-aggregate-put
-slice-aggregate-put c = search needs
+  abbrev role : ℕ
+  role = s .args .role
 
-put-requires : tie.Need-put-requires
-put-requires c κs = omega (arith, size (c .before .before .before))
+  size : length (entryText user role) ≡ length (decimal user) + length (decimal role) + 2
+  size = entry-length user role
 
-put-decimal-requires : tie.Need-put-decimal-requires
-put-decimal-requires c κs = omega (arith, size (c .before .before .before .before .before .before .before))
+-- the places: each call from the one behind it
+abbrev entered : tie.After-put-number-arg2 → tie.Start
+entered c = c .before .before .before
 
-slice-aggregate-put-2 : tie.Need-slice-aggregate-put-2
-slice-aggregate-put-2 c = search needs
+abbrev user-put : tie.After-put-number-arg4 → tie.After-put-number
+user-put c = c .before .before .before .before
 
-put-requires-2 : tie.Need-put-requires-2
-put-requires-2 c κs = omega (arith, size (c .before .before .before .before .before .before .before .before .before .before .before .before))
+slice-aggregate-put-number : tie.Need-slice-aggregate-put-number
+slice-aggregate-put-number c = search needs
 
-put-decimal-requires-2 : tie.Need-put-decimal-requires-2
-put-decimal-requires-2 c κs = omega (arith, size (c .before .before .before .before .before .before .before .before .before .before .before .before .before .before .before .before))
+put-number-requires : tie.Need-put-number-requires
+put-number-requires c κs = omega (arith, size (entered c))
+
+slice-aggregate-put-number-2 : tie.Need-slice-aggregate-put-number-2
+slice-aggregate-put-number-2 c = search needs
+
+put-number-requires-2 : tie.Need-put-number-requires-2
+put-number-requires-2 c κs = omega (arith, size (entered (user-put c .before)))
 
 same-length : tie.Need-same-length
 same-length c = search needs
 
 returns : tie.Need-returns
-unfolding entryText
-returns c = joined (c .before .before .before .before .before .before .before .before .before .before .before .before .before .before .before .put .ensures) (joined (c .before .before .before .before .before .before .before .before .before .before .before .put-decimal .ensures) (joined (c .before .before .before .before .before .before .put2 .ensures) (c .before .before .put-decimal2 .ensures)))
+returns c =
+    let second = c .before .before in
+    let first = user-put (second .before) in
+    let s = entered (first .before) in
+    entry-written (user s) (role s) (first .put-number .ensures) (second .put-number2 .ensures)
 
 pub put-entry-spec : {M : Type 1} → statement M
 put-entry-spec =
     tie.close
     (tie.spec
-    slice-aggregate-put
-    put-requires
-    put-decimal-requires
-    slice-aggregate-put-2
-    put-requires-2
-    put-decimal-requires-2
+    slice-aggregate-put-number
+    put-number-requires
+    slice-aggregate-put-number-2
+    put-number-requires-2
     same-length
     returns)
