@@ -1,18 +1,22 @@
--- Laws of rows of bits: a member added, and rows without any.
-use Prim.Native.Nat.{ℕ, zero, suc, _^_, _<_}
-use mathlib.Core.Bool.{Bool, false, _&&_, _||_, cond, or-false}
-use mathlib.Core.Path.{_≡_, refl, sym}
+-- Laws of rows of bits: a member added, rows without any, a row made bit by bit, and the rows made one by one.
+use Prim.Native.Nat.{ℕ, zero, suc, _+_, _^_, _≤_, _<_}
+use mathlib.Core.Bool.{Bool, true, false, _&&_, _||_, cond, or-false}
+use mathlib.Core.Path.{_≡_, refl, sym, _∙_}
 use mathlib.Core.Logic.{⊎-elim}
 use mathlib.Core.List.{List}
+use native.Mathlib.Nat.{le-refl, not-suc-le-zero}
+use native.Mathlib.Omega.{arith}
 use borrow.Author.Tests.{eqb-true, eqb-false}
-use lib.Bits.{bitOr}
-use lib.Dec.{eqb}
-use lib.ListN.{length, getD, set, replicate}
+use lib.Bits.{bitOr, or-zero-r}
+use lib.Dec.{ltb, eqb}
+use lib.ListN.{length, getD, set, replicate, length-set}
 use lib.Seq.{getD-set-same, getD-set-other}
 use Rattle.folds.specs.Sets.{inSet, setBelow}
 use Rattle.folds.proofs.Bools.{met-or-not}
 use Rattle.folds.proofs.Numbers.{sum-zero}
-use Rattle.folds.proofs.Sets.{in-none, in-added}
+use Rattle.folds.proofs.Lists.{stored}
+use Rattle.folds.proofs.Sets.{in-none, in-added, in-below, set-or}
+use Rattle.conflicts.specs.Rows.{Rows}
 
 -- sets of which all are 0 are empty
 pub empty-sets : (n s t : ℕ) → inSet (getD (replicate {A = ℕ} n 0) s 0) t ≡ false
@@ -29,11 +33,69 @@ pub set-added : (w : List ℕ) (i v p q : ℕ) → i ≡ p → v ≡ 2 ^ q → p
 set-added w i v p q at one l s t =
     rw (at, one)
     (⊎-elim
-    (λ e. let d : p ≡ s = eqb-true _ _ e in rw (e, ← d, getD-set-same w p (bitOr (getD w p 0) (2 ^ q)) 0 l) (in-added (getD w p 0) q t))
-    (λ e. let d : s ≡ p → ⊥ = λ q. eqb-false p s e (sym q) in rw (getD-set-other w p s (bitOr (getD w p 0) (2 ^ q)) 0 d, e) (sym (or-false (inSet (getD w s 0) t))))
+    (λ e. let d : p ≡ s = eqb-true _ _ e in
+    rw (e, ← d, getD-set-same w p (bitOr (getD w p 0) (2 ^ q)) 0 l) (in-added (getD w p 0) q t))
+    (λ e. let d : s ≡ p → ⊥ = λ q. eqb-false p s e (sym q) in
+    rw (getD-set-other w p s (bitOr (getD w p 0) (2 ^ q)) 0 d, e) (sym (or-false (inSet (getD w s 0) t))))
     (met-or-not (eqb p s)))
 
 -- where p holds of no number below n, the set is empty
 pub set-empty : (p : ℕ → Bool) (n : ℕ) → ((i : ℕ) → i < n → p i ≡ false) → setBelow n p ≡ 0
 unfolding setBelow
 set-empty p n h = sum-zero (λ r. cond (p r) (2 ^ r) 0) n (λ i l. rw (h i l))
+
+-- a row that has its bits below j, of m; those below `from` are never set
+pub record FirstBits (from m : ℕ) (p : ℕ → Bool) (row j : ℕ) : Type 0 where
+  pub low : from ≤ j
+  pub within : j ≤ m
+  pub is : row ≡ setBelow j p
+
+pub no-bits : (from m : ℕ) (p : ℕ → Bool) → from ≤ m → ((k : ℕ) → k < from → p k ≡ false) → FirstBits from m p 0 from
+no-bits from m p l none = record { low = le-refl from; within = l; is = sym (set-empty p from none) }
+
+-- one bit further: p holds of j, or not
+module _ {from m : ℕ} {p : ℕ → Bool} {row j : ℕ} (bits : FirstBits from m p row j) (inside : j < m) where
+  further : {now : ℕ} → now ≡ setBelow (j + 1) p → FirstBits from m p now (j + 1)
+  further e = let l = bits .low in record { low = omega arith; within = omega arith; is = e }
+
+  pub bit-set : {bit now : ℕ} → p j ≡ true → bit ≡ 2 ^ j → now ≡ bitOr row bit → FirstBits from m p now (j + 1)
+  bit-set {bit} h b e = further (e ∙ more (bits .is))
+    where
+      more : row ≡ setBelow j p → bitOr row bit ≡ setBelow (j + 1) p
+      more is = rw (set-or p j, h, is, b)
+
+  pub bit-clear : {now : ℕ} → p j ≡ false → now ≡ row → FirstBits from m p now (j + 1)
+  bit-clear h e = further (e ∙ same (bits .is))
+    where
+      same : row ≡ setBelow j p → row ≡ setBelow (j + 1) p
+      same is = rw (set-or p j, h, or-zero-r) is
+
+-- all bits
+pub all-bits : {from m : ℕ} {p : ℕ → Bool} {row j : ℕ} → FirstBits from m p row j → m ≤ j →
+    (k : ℕ) → inSet row k ≡ (ltb k m && p k)
+all-bits {m = m} {p = p} {j = j} bits end k =
+    let w = bits .within in
+    let e : j ≡ m = omega arith in
+    rw (bits .is, e) (in-below p m k)
+
+-- the first i of n rows, in 64 places
+pub record FirstRows (n m : ℕ) (p : ℕ → ℕ → Bool) (rows : List ℕ) (i : ℕ) : Type 0 where
+  pub within : i ≤ n
+  pub size : length rows ≡ 64
+  pub are : Rows i m p rows
+
+pub no-rows : (n m : ℕ) (p : ℕ → ℕ → Bool) → FirstRows n m p (replicate {A = ℕ} 64 0) 0
+no-rows n m p =
+    record { within = omega arith; size = refl; are = record { row = λ i j l. absurd (not-suc-le-zero l) } }
+
+module _ {n m : ℕ} {p : ℕ → ℕ → Bool} {rows : List ℕ} {i : ℕ} (first : FirstRows n m p rows i) where
+  pub next-row : n ≤ 64 → i < n → (row : ℕ) → ((j : ℕ) → inSet row j ≡ (ltb j m && p i j)) →
+      FirstRows n m p (set rows i row) (i + 1)
+  next-row few l row h =
+      let size = first .size in
+      let Q : ℕ → ℕ → Type 0 = λ k y. (j : ℕ) → inSet y j ≡ (ltb j m && p k j) in
+      let all = stored rows i row Q (omega arith) (λ k b j. first .are .row k j b) h in
+      record { within = omega arith; size = rw length-set size; are = record { row = λ k j b. all k b j } }
+
+  pub all-rows : n ≤ i → Rows n m p rows
+  all-rows end = let w = first .within in let e : i ≡ n = omega arith in rw e at (first .are)

@@ -1,5 +1,5 @@
 -- What the conflict list needs to know of the tables of an accepted base.
-use Prim.Native.Nat.{ℕ, _*_, _<_, _≤_}
+use Prim.Native.Nat.{ℕ, _*_, _/_, _<_, _≤_}
 use mathlib.Core.Bool.{Bool, true, false, cond}
 use mathlib.Core.Path.{_≡_, _∙_}
 use mathlib.Core.List.{List}
@@ -9,42 +9,58 @@ use borrow.Author.Tests.{lt-ltb, le-ltb}
 use Rattle.folds.proofs.Tests.{any-each}
 use lib.ListN.{length, List·getD-eq-default}
 use lib.Dec.{eqb, lit<}
-use Rattle.reader.specs.Tables.{width, limit, contexts, exclusions, recordCount, tableOf}
+use Rattle.reader.specs.Tables.{width, limit, users, contexts, policies, exclusions, recordCount, tableOf}
 use Rattle.reader.specs.Rules.{exclusionBad, exclusionsBad, refusalOf}
 use Rattle.reader.proofs.Frame.{table-length, record-count, count-limit}
 use Rattle.reader.proofs.Accepted.{accepted, exclusion-fine}
 use Rattle.reader.specs.Fields.{contextLength, exclusionKind, exclusionFirst, exclusionSecond}
 
 -- a clause with conditions lies in the table
-pub inside-table : (c : List ℕ) → length c ≡ 16 * recordCount contexts c → (i : ℕ) → 0 < contextLength c i → i < recordCount contexts c
+pub inside-table : (c : List ℕ) → length c ≡ 16 * recordCount contexts c → (i : ℕ) → 0 < contextLength c i →
+    i < recordCount contexts c
 inside-table c w i h =
     lt-of-not-le (λ l. let e : contextLength c i ≡ 0 = List·getD-eq-default c 0 (omega arith) in absurd (omega arith))
 
 -- a table of an accepted base has whole records, and at most its limit of them
-pub whole-records : (b : List ℕ) → refusalOf b ≡ 0 → (t : ℕ) → t < 7 → length (tableOf b t) ≡ recordCount t (tableOf b t) * width t
+pub whole-records : (b : List ℕ) → refusalOf b ≡ 0 → (t : ℕ) → t < 7 →
+    length (tableOf b t) ≡ recordCount t (tableOf b t) * width t
 whole-records b ok t l = let f = accepted b ok .frame in rw (record-count b f t l) (table-length b f t l)
 
-pub whole-contexts : (b : List ℕ) → refusalOf b ≡ 0 → length (tableOf b contexts) ≡ 16 * recordCount contexts (tableOf b contexts)
+pub whole-contexts : (b : List ℕ) → refusalOf b ≡ 0 →
+    length (tableOf b contexts) ≡ 16 * recordCount contexts (tableOf b contexts)
 whole-contexts b ok = whole-records b ok 4 (lit< tt) ∙ mul-comm (recordCount contexts (tableOf b contexts)) 16
 
 pub records-le : (b : List ℕ) → refusalOf b ≡ 0 → (t : ℕ) → t < 7 → recordCount t (tableOf b t) ≤ limit t
 records-le b ok t l = let f = accepted b ok .frame in rw (record-count b f t l) (count-limit b f t l)
 
+-- at most 64 policies, users and exclusions: the rows and their bits
+module _ (b : List ℕ) (ok : refusalOf b ≡ 0) {t : List ℕ} where
+  pub few-policies : t ≡ tableOf b policies → length t / 8 ≤ 64
+  few-policies e = rw e (records-le b ok policies (lit< tt))
+
+  pub few-users : t ≡ tableOf b users → length t / 4 ≤ 64
+  few-users e = rw e (let n = records-le b ok users (lit< tt) in omega arith)
+
+  pub few-exclusions : t ≡ tableOf b exclusions → length t / 3 ≤ 64
+  few-exclusions e = rw e (let n = records-le b ok exclusions (lit< tt) in omega arith)
+
 -- a table X that passed the check passes it with more roles and permissions
-pub exclusions-wider : (R P S Q : ℕ) (x : List ℕ) → R ≤ S → P ≤ Q → exclusionsBad R P x ≡ false → exclusionsBad S Q x ≡ false
+pub exclusions-wider : (R P S Q : ℕ) (x : List ℕ) → R ≤ S → P ≤ Q → exclusionsBad R P x ≡ false →
+    exclusionsBad S Q x ≡ false
 unfolding exclusionsBad exclusionBad
 exclusions-wider R P S Q x r p fine =
     any-each (exclusionBad S Q x) (recordCount exclusions x)
     (λ i m. let f = exclusion-fine R P x i fine m in
-    rw (le-ltb _ _ (f .kind-le), lt-ltb _ _ (f .rising), lt-ltb _ _ (lt-of-lt-of-le (f .there) (more (eqb (exclusionKind x i) 0)))))
+    let there = lt-of-lt-of-le (f .there) (more (eqb (exclusionKind x i) 0)) in
+    rw (le-ltb _ _ (f .kind-le), lt-ltb _ _ (f .rising), lt-ltb _ _ there))
   where
     more : (t : Bool) → cond t R P ≤ cond t S Q
     more true = r
     more false = p
 
 -- the permissions of an exclusion of kind 1 are below 16
-pub permissions-small : (x : List ℕ) (e : ℕ) → exclusionsBad 8 16 x ≡ false → e < recordCount exclusions x → exclusionKind x e ≡ 1 →
-    (exclusionFirst x e < 16) × (exclusionSecond x e < 16)
+pub permissions-small : (x : List ℕ) (e : ℕ) → exclusionsBad 8 16 x ≡ false → e < recordCount exclusions x →
+    exclusionKind x e ≡ 1 → (exclusionFirst x e < 16) × (exclusionSecond x e < 16)
 permissions-small x e fine l one =
     let f = exclusion-fine 8 16 x e fine l in
     let small : exclusionSecond x e < 16 = rw one at (f .there) in

@@ -6,7 +6,8 @@ use lib.ListN.{length, drop}
 use lib.Dec.{ltb, eqb}
 use Rattle.folds.specs.Below.{anyBelow, joinBelow}
 use Rattle.reader.specs.Tables.{hierarchy, users, contexts, policies, exclusions, roleCount, tableOf, recordCount}
-use Rattle.reader.specs.Fields.{policyRole, policyPermission, policyWeight, policyType, policyContext, exclusionKind, exclusionFirst, exclusionSecond}
+use Rattle.reader.specs.Fields.{policyRole, policyPermission, policyWeight, policyType, policyContext}
+use Rattle.reader.specs.Fields.{exclusionKind, exclusionFirst, exclusionSecond}
 use Rattle.reader.specs.Codes.{heldBy}
 use Rattle.reader.specs.Rules.{refusalOf}
 use Rattle.reader.specs.declared.Answer.{Answer}
@@ -31,7 +32,8 @@ covers h a i r = eqb (policyRole a i) r || (eqb (policyType a i) 1 && seniorTo h
 unfoldable pub excludes : List ℕ → ℕ → ℕ → ℕ → Bool
 excludes x p q e =
     eqb (exclusionKind x e) 1
-    && ((eqb (exclusionFirst x e) p && eqb (exclusionSecond x e) q) || (eqb (exclusionFirst x e) q && eqb (exclusionSecond x e) p))
+    && ((eqb (exclusionFirst x e) p && eqb (exclusionSecond x e) q)
+    || (eqb (exclusionFirst x e) q && eqb (exclusionSecond x e) p))
 
 -- permissions p and q form an exclusion of kind 1
 unfoldable pub excluded : List ℕ → ℕ → ℕ → Bool
@@ -47,7 +49,8 @@ overlap R h x a i j = ltb i j && (excluded x (policyPermission a i) (policyPermi
 
 -- kind 3: user u, exclusion record e of kind 0, where u holds both its roles
 unfoldable pub holdsBoth : ℕ → List ℕ → List ℕ → ℕ → ℕ → Bool
-holdsBoth R us x u e = eqb (exclusionKind x e) 0 && (heldBy R us u (exclusionFirst x e) && heldBy R us u (exclusionSecond x e))
+holdsBoth R us x u e =
+    eqb (exclusionKind x e) 0 && (heldBy R us u (exclusionFirst x e) && heldBy R us u (exclusionSecond x e))
 
 -- the records (kind, first, second) of the pairs below n and m of which p holds, by first, then second
 unfoldable pub pairsBelow : ℕ → ℕ → ℕ → (ℕ → ℕ → Bool) → List ℕ
@@ -56,9 +59,12 @@ pairsBelow kind n m p = joinBelow n (λ i. joinBelow m (λ j. cond (p i j) (kind
 -- the conflict list of a base
 unfoldable pub conflicts : List ℕ → List ℕ
 conflicts b =
-    pairsBelow 1 (recordCount policies (tableOf b policies)) (recordCount policies (tableOf b policies)) (contradict (tableOf b contexts) (tableOf b policies))
-    ++ (pairsBelow 2 (recordCount policies (tableOf b policies)) (recordCount policies (tableOf b policies)) (overlap (roleCount b) (tableOf b hierarchy) (tableOf b exclusions) (tableOf b policies))
-    ++ pairsBelow 3 (recordCount users (tableOf b users)) (recordCount exclusions (tableOf b exclusions)) (holdsBoth (roleCount b) (tableOf b users) (tableOf b exclusions)))
+    pairsBelow 1 (recordCount policies (tableOf b policies)) (recordCount policies (tableOf b policies))
+    (contradict (tableOf b contexts) (tableOf b policies))
+    ++ (pairsBelow 2 (recordCount policies (tableOf b policies)) (recordCount policies (tableOf b policies))
+    (overlap (roleCount b) (tableOf b hierarchy) (tableOf b exclusions) (tableOf b policies))
+    ++ pairsBelow 3 (recordCount users (tableOf b users)) (recordCount exclusions (tableOf b exclusions))
+    (holdsBoth (roleCount b) (tableOf b users) (tableOf b exclusions)))
 
 -- the number of its records
 unfoldable pub conflictCount : List ℕ → ℕ
@@ -72,7 +78,9 @@ tooShort b n = ltb n (3 * conflictCount b)
 unfoldable pub conflictAnswer : List ℕ → ℕ → Answer
 conflictAnswer b n =
     cond (not (eqb (refusalOf b) 0)) (record { refusal = refusalOf b; count = 0 })
-    (cond (tooShort b n) (record { refusal = 18; count = conflictCount b }) (record { refusal = 0; count = conflictCount b }))
+    (cond (tooShort b n)
+    (record { refusal = 18; count = conflictCount b })
+    (record { refusal = 0; count = conflictCount b }))
 
 -- the buffer afterwards: the list, and the bytes behind it as they were; no refusal writes
 unfoldable pub conflictBytes : List ℕ → List ℕ → List ℕ

@@ -25,7 +25,9 @@ pub record Excluded (x sets : List ℕ) : Type 0 where
 -- two context numbers are related by the rows of related slots
 abbrev pub relatedBy : List ℕ → ℕ → ℕ → Bool
 relatedBy rows x y =
-    cond (leb (slotOf x) (slotOf y)) (inSet (getD rows (slotOf x) 0) (slotOf y)) (inSet (getD rows (slotOf y) 0) (slotOf x))
+    cond (leb (slotOf x) (slotOf y))
+    (inSet (getD rows (slotOf x) 0) (slotOf y))
+    (inSet (getD rows (slotOf y) 0) (slotOf x))
 
 -- kind 1 by those rows
 abbrev pub contradictBy : List ℕ → List ℕ → ℕ → ℕ → Bool
@@ -34,7 +36,9 @@ contradictBy rows a i j = ltb i j && (disagree a i j && relatedBy rows (policyCo
 -- kind 2 by the sets of excluded permissions and of covered roles
 abbrev pub overlapBy : List ℕ → List ℕ → List ℕ → ℕ → ℕ → Bool
 overlapBy apart covered a i j =
-    ltb i j && (inSet (getD apart (policyPermission a i) 0) (policyPermission a j) && not (eqb (bitAnd (getD covered i 0) (getD covered j 0)) 0))
+    ltb i j
+    && (inSet (getD apart (policyPermission a i) 0) (policyPermission a j)
+    && not (eqb (bitAnd (getD covered i 0) (getD covered j 0)) 0))
 
 -- for each i below n, row i has the numbers below m of which p i holds
 pub record Rows (n m : ℕ) (p : ℕ → ℕ → Bool) (rows : List ℕ) : Type 0 where
@@ -43,7 +47,8 @@ pub record Rows (n m : ℕ) (p : ℕ → ℕ → Bool) (rows : List ℕ) : Type 
 -- the rows of kind 1 of a base, a row for each policy
 abbrev pub Contradictions : List ℕ → List ℕ → Type 0
 Contradictions b =
-    Rows (recordCount policies (tableOf b policies)) (recordCount policies (tableOf b policies)) (contradict (tableOf b contexts) (tableOf b policies))
+    Rows (recordCount policies (tableOf b policies)) (recordCount policies (tableOf b policies))
+    (contradict (tableOf b contexts) (tableOf b policies))
 
 -- the rows of kind 2, a row for each policy
 abbrev pub Overlaps : List ℕ → List ℕ → Type 0
@@ -54,7 +59,8 @@ Overlaps b =
 -- the rows of kind 3, a row for each user
 abbrev pub Holders : List ℕ → List ℕ → Type 0
 Holders b =
-    Rows (recordCount users (tableOf b users)) (recordCount exclusions (tableOf b exclusions)) (holdsBoth (roleCount b) (tableOf b users) (tableOf b exclusions))
+    Rows (recordCount users (tableOf b users)) (recordCount exclusions (tableOf b exclusions))
+    (holdsBoth (roleCount b) (tableOf b users) (tableOf b exclusions))
 
 -- the records of one row: kind and first, and each member as second
 unfoldable pub rowRecords : ℕ → ℕ → ℕ → List ℕ

@@ -1,34 +1,43 @@
 // The conflicts of each kind as rows of bits, a row for each first.
 use crate::covers;
-use reader::bytes;
 use reader::trailer;
 use related::slots;
 ghost use mathlib.Core.Path.{_≡_};
-ghost use mathlib.Core.Bool.{false, _&&_};
+ghost use mathlib.Core.Bool.{false, _&&_, not};
 ghost use mathlib.Core.Logic.{_⊎_};
 ghost use Prim.Native.Nat.{ℕ, _+_, _*_, _/_, _≤_, _<_};
-ghost use lib.ListN.{length};
-ghost use lib.Dec.{ltb};
+ghost use lib.ListN.{length, getD};
+ghost use lib.Dec.{ltb, eqb};
 ghost use Rattle.folds.specs.Sets.{inSet};
 ghost use Rattle.reader.specs.Rules.{policiesBad, refusalOf};
 ghost use Rattle.conflicts.specs.Conflicts.{disagree, holdsBoth};
 ghost use Rattle.conflicts.specs.Rows.{relatedBy, contradictBy, overlapBy, Contradictions, Overlaps, Holders};
+
+// The bytes at p and q are different.
+fn differ(a: &[u8], p: usize, q: usize) -> bool
+    requires { ⌜ (p < length (now a)) × (q < length (now a)) ⌝ }
+    ensures { λ r. ⌜ r ≡ not (eqb (getD (now (a .entry)) p 0) (getD (now (a .entry)) q 0)) ⌝ }
+{
+    a[p] != a[q]
+}
 
 // Policies i and j have equal role and permission, and different weight or type.
 fn policies_disagree(a: &[u8], i: usize, j: usize) -> bool
     requires { ⌜ (8 * i + 8 ≤ length (now a)) × (8 * j + 8 ≤ length (now a)) ⌝ }
     ensures { λ r. ⌜ r ≡ disagree (now (a .entry)) i j ⌝ }
 {
-    if a[8 * i] != a[8 * j] {
+    let p = 8 * i;
+    let q = 8 * j;
+    if differ(a, p, q) {
         return false;
     }
-    if a[8 * i + 1] != a[8 * j + 1] {
+    if differ(a, p + 1, q + 1) {
         return false;
     }
-    if a[8 * i + 2] != a[8 * j + 2] {
+    if differ(a, p + 2, q + 2) {
         return true;
     }
-    a[8 * i + 3] != a[8 * j + 3]
+    differ(a, p + 3, q + 3)
 }
 
 // The context numbers x and y are related, by the rows of related slots.
@@ -58,7 +67,10 @@ fn contradict_by(rows: &[u32; 17], a: &[u8], i: usize, j: usize) -> bool
 // The row of kind 1 for policy i.
 fn contradict_row(rows: &[u32; 17], a: &[u8], i: usize) -> u64
     requires { ⌜ (i < length (now a) / 8) × (length (now a) / 8 ≤ 64) × (policiesBad 8 256 (now a) ≡ false) ⌝ }
-    ensures { λ r. ⌜ ((j : ℕ) → inSet r j ≡ (ltb j (length (now (a .entry)) / 8) && contradictBy (now (rows .entry)) (now (a .entry)) i j)) ⌝ }
+    ensures { λ r. ⌜
+        ((j : ℕ) → inSet r j ≡
+        (ltb j (length (now (a .entry)) / 8) && contradictBy (now (rows .entry)) (now (a .entry)) i j))
+        ⌝ }
 {
     let mut row: u64 = 0;
     for j in i + 1..a.len() / 8 {
@@ -74,17 +86,20 @@ fn overlap_by(apart: &[u32; 16], covered: &[u8; 64], a: &[u8], i: usize, j: usiz
     requires { ⌜ (i < j) × (j < length (now a) / 8) × (length (now a) / 8 ≤ 64) × (policiesBad 8 16 (now a) ≡ false) ⌝ }
     ensures { λ r. ⌜ r ≡ overlapBy (now (apart .entry)) (now (covered .entry)) (now (a .entry)) i j ⌝ }
 {
-    let p = a[8 * i + 1];
-    if !weights::sets::in_set(apart[p as usize], a[8 * j + 1]) {
+    if covered[i] & covered[j] == 0 {
         return false;
     }
-    covered[i] & covered[j] != 0
+    weights::sets::in_set(apart[a[8 * i + 1] as usize], a[8 * j + 1])
 }
 
 // The row of kind 2 for policy i.
 fn overlap_row(apart: &[u32; 16], covered: &[u8; 64], a: &[u8], i: usize) -> u64
     requires { ⌜ (i < length (now a) / 8) × (length (now a) / 8 ≤ 64) × (policiesBad 8 16 (now a) ≡ false) ⌝ }
-    ensures { λ r. ⌜ ((j : ℕ) → inSet r j ≡ (ltb j (length (now (a .entry)) / 8) && overlapBy (now (apart .entry)) (now (covered .entry)) (now (a .entry)) i j)) ⌝ }
+    ensures { λ r. ⌜
+        ((j : ℕ) → inSet r j ≡
+        (ltb j (length (now (a .entry)) / 8)
+        && overlapBy (now (apart .entry)) (now (covered .entry)) (now (a .entry)) i j))
+        ⌝ }
 {
     let mut row: u64 = 0;
     for j in i + 1..a.len() / 8 {
@@ -100,19 +115,23 @@ fn holds_both(users: &[u8], roles: u8, x: &[u8], u: usize, e: usize) -> bool
     requires { ⌜ (roles ≤ 8) × (3 * e + 3 ≤ length (now x)) ⌝ }
     ensures { λ r. ⌜ r ≡ holdsBoth roles (now (users .entry)) (now (x .entry)) u e ⌝ }
 {
-    if x[3 * e] != 0 {
+    let at = 3 * e;
+    if x[at] != 0 {
         return false;
     }
-    if !reader::codes::held_by(users, roles, u, bytes::wide(x[3 * e + 1])) {
+    if !reader::codes::held_by(users, roles, u, x[at + 1] as usize) {
         return false;
     }
-    reader::codes::held_by(users, roles, u, bytes::wide(x[3 * e + 2]))
+    reader::codes::held_by(users, roles, u, x[at + 2] as usize)
 }
 
 // The row of kind 3 for user u.
 fn holds_row(users: &[u8], roles: u8, x: &[u8], u: usize) -> u64
     requires { ⌜ (roles ≤ 8) × (length (now x) / 3 ≤ 64) ⌝ }
-    ensures { λ r. ⌜ ((j : ℕ) → inSet r j ≡ (ltb j (length (now (x .entry)) / 3) && holdsBoth roles (now (users .entry)) (now (x .entry)) u j)) ⌝ }
+    ensures { λ r. ⌜
+        ((j : ℕ) → inSet r j ≡
+        (ltb j (length (now (x .entry)) / 3) && holdsBoth roles (now (users .entry)) (now (x .entry)) u j))
+        ⌝ }
 {
     let mut row: u64 = 0;
     for e in 0..x.len() / 3 {

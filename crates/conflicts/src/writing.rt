@@ -27,7 +27,10 @@ fn rows_count(rows: &[u64; 64], n: usize) -> u32
 // Inner: how many records the rows of all kinds have: n rows of kinds 1 and 2 each, m of kind 3.
 pub fn count_all(one: &[u64; 64], two: &[u64; 64], n: usize, three: &[u64; 64], m: usize) -> u32
     requires { ⌜ (n ≤ 64) × (m ≤ 64) ⌝ }
-    ensures { λ r. ⌜ (3 * r ≡ length (allRecords (now (one .entry)) (now (two .entry)) n (now (three .entry)) m)) × (r ≤ 12288) ⌝ }
+    ensures { λ r. ⌜
+        (3 * r ≡ length (allRecords (now (one .entry)) (now (two .entry)) n (now (three .entry)) m))
+        × (r ≤ 12288)
+        ⌝ }
 {
     rows_count(one, n) + rows_count(two, n) + rows_count(three, m)
 }
@@ -35,7 +38,10 @@ pub fn count_all(one: &[u64; 64], two: &[u64; 64], n: usize, three: &[u64; 64], 
 // Writes the records of one row from place at on, the lowest bit first; the place behind them.
 fn write_row(out: &mut [u8], at: usize, kind: u8, first: u8, row: u64) -> usize
     requires { ⌜ at + length (rowRecords kind first row) ≤ length (now out) ⌝ }
-    ensures { λ r. ⌜ (r ≡ at + length (rowRecords kind first row)) × (now (out .exit) ≡ sets (now (out .entry)) at (rowRecords kind first row)) ⌝ }
+    ensures { λ r. ⌜
+        (r ≡ at + length (rowRecords kind first row))
+        × (now (out .exit) ≡ sets (now (out .entry)) at (rowRecords kind first row))
+        ⌝ }
 {
     let mut next = at;
     let mut rest = row;
@@ -53,7 +59,10 @@ fn write_row(out: &mut [u8], at: usize, kind: u8, first: u8, row: u64) -> usize
 // Writes the records of the first n rows from place at on; the place behind them.
 fn write_rows(out: &mut [u8], at: usize, kind: u8, rows: &[u64; 64], n: usize) -> usize
     requires { ⌜ (n ≤ 64) × (at + length (rowsRecords kind (now rows) n) ≤ length (now out)) ⌝ }
-    ensures { λ r. ⌜ (r ≡ at + length (rowsRecords kind (now (rows .entry)) n)) × (now (out .exit) ≡ sets (now (out .entry)) at (rowsRecords kind (now (rows .entry)) n)) ⌝ }
+    ensures { λ r. ⌜
+        (r ≡ at + length (rowsRecords kind (now (rows .entry)) n))
+        × (now (out .exit) ≡ sets (now (out .entry)) at (rowsRecords kind (now (rows .entry)) n))
+        ⌝ }
 {
     let mut next = at;
     for i in 0..n {
@@ -72,7 +81,10 @@ pub fn write_all(
     m: usize,
 )
     requires { ⌜ (n ≤ 64) × (m ≤ 64) × (length (allRecords (now one) (now two) n (now three) m) ≤ length (now out)) ⌝ }
-    ensures { λ _. ⌜ now (out .exit) ≡ sets (now (out .entry)) 0 (allRecords (now (one .entry)) (now (two .entry)) n (now (three .entry)) m) ⌝ }
+    ensures { λ _. ⌜
+        now (out .exit) ≡
+        sets (now (out .entry)) 0 (allRecords (now (one .entry)) (now (two .entry)) n (now (three .entry)) m)
+        ⌝ }
 {
     let behind = write_rows(out, 0, 1, one, n);
     let last = write_rows(out, behind, 2, two, n);

@@ -1,30 +1,42 @@
-use Prim.Native.Nat.{_≤_, _-_, _/_}
-use mathlib.Core.Path.{_≡_, sym, _∙_}
-use mathlib.Core.Logic.{⊎-elim}
+-- `holds_row` meets its contract: each turn sets the bit of the next exclusion, or leaves it.
+use Prim.Native.Nat.{_-_, _/_}
+use mathlib.Core.Logic.{inl, inr}
+use mathlib.Core.Path.{sym, _∙_}
 use native.Mathlib.Omega.{arith}
 use borrow.Author.Needs.{needs}
 use lib.ListN.{length}
-use lib.Bits.{or-zero-r}
-use Rattle.folds.proofs.Sets.{set-none, set-or, in-below}
-use Rattle.folds.specs.Sets.{setBelow}
+use Rattle.folds.proofs.Sets.{set-none}
 use Rattle.conflicts.specs.Conflicts.{holdsBoth}
+use Rattle.conflicts.proofs.Bits.{FirstBits, bit-set, bit-clear, all-bits}
 use Rattle.conflicts.proofs.rows.holds_row.Statement.{statement}
 use Rattle.conflicts.proofs.rows.holds_row.Tie as tie
 
 abbrev Inv-loop : tie.InvT-loop
-Inv-loop users roles x u row₀ e₀ e-end row e = (e ≤ length x / 3) × (row ≡ setBelow e (holdsBoth roles users x u))
+Inv-loop users roles x u row₀ e₀ e-end row e = FirstBits 0 (length x / 3) (holdsBoth roles users x u) row e
 
 abbrev μ-loop : tie.MeasureT-loop
 μ-loop users roles x u row₀ e₀ e-end row e = length x / 3 - e
 
+-- the entry
+abbrev Start : Type 0
+Start = tie.Start Inv-loop μ-loop
+
+abbrev at-loop : tie.At-loop Inv-loop μ-loop → Start
+at-loop c = c .before .before .before
+
+abbrev in-loop : tie.In-loop Inv-loop μ-loop → Start
+in-loop c = at-loop (c .before)
+
 loop-holds : tie.Need-loop-holds Inv-loop μ-loop
-loop-holds c = (search needs, sym (set-none _))
+loop-holds c = record { low = omega arith; within = omega arith; is = sym (set-none _) }
 
 holds-both-requires : tie.Need-holds-both-requires Inv-loop μ-loop
-holds-both-requires c κs = (c .before .before .before .before .pre .0, search needs)
+holds-both-requires c κs = (in-loop c .pre .0, omega (arith, c .loop-test .taken))
 
 wide-bit-requires : tie.Need-wide-bit-requires Inv-loop μ-loop
-wide-bit-requires c κs = omega (arith, c .before .before .before .before .before .before .pre .1)
+wide-bit-requires c κs =
+    let turn = c .before .before in
+    omega (arith, turn .loop-test .taken, in-loop turn .pre .1)
 
 add-e : tie.Need-add-e Inv-loop μ-loop
 add-e c = search needs
@@ -34,20 +46,17 @@ loop-less c = search needs
 
 loop-again : tie.Need-loop-again Inv-loop μ-loop
 loop-again c =
-    let l = c .before .before .before .loop in
-    let a = c .before .before .before .before .before .before .args in
-    let p = holdsBoth (a .roles) (a .users .now) (a .x .now) (a .u) in (
-      search needs,
-      ⊎-elim (λ w. w .2 ∙ rw (set-or p (l .e), ← c .before .holds-both .ensures, w .0 .taken, l .inv .1, w .1 .ensures))
-          (λ w. w .1 ∙ rw (set-or p (l .e), ← c .before .holds-both .ensures, w .0 .left, or-zero-r) (l .inv .1)) (c .if1 .came),
-    )
+    let turn = c .before .before in
+    let bits = turn .before .loop .inv in
+    let inside = turn .loop-test .taken in
+    let test = sym (c .before .holds-both .ensures) in
+    elim (c .if1 .came) [
+      | inl d ↦ bit-set bits inside (test ∙ d .0 .taken) (d .1 .ensures) (d .2)
+      | inr d ↦ bit-clear bits inside (test ∙ d .0 .left) (d .1)
+    ]
 
 returns : tie.Need-returns Inv-loop μ-loop
-returns c =
-    let l = c .before .loop in
-    let a = c .before .before .before .before .args in
-    let e : l .e ≡ length (a .x .now) / 3 = omega arith in
-    λ j. rw (l .inv .1, e) (in-below (holdsBoth (a .roles) (a .users .now) (a .x .now) (a .u)) _ j)
+returns c = all-bits (c .before .loop .inv) (c .loop-test .left)
 
 pub holds-row-spec : {M : Type 1} → statement M
 holds-row-spec =

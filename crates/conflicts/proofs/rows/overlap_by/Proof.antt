@@ -1,31 +1,83 @@
+-- `overlap_by` meets its contract: the sets of covered roles are tested first, then the permissions.
+use Prim.Native.Nat.{ℕ, _/_, _<_, _≤_}
+use mathlib.Core.Bool.{Bool, false, and-true, and-false}
+use mathlib.Core.List.{List}
+use mathlib.Core.Path.{_≡_, sym}
 use native.Mathlib.Omega.{arith}
 use native.Mathlib.Nat.{lt-trans}
-use borrow.Author.Tests.{lt-ltb, not-true, not-false}
 use borrow.Author.Needs.{needs}
+use borrow.Author.Tests.{lt-ltb, eq-eqb, ne-eqb}
+use lib.Bits.{bitAnd}
+use lib.ListN.{length, getD}
+use Rattle.folds.specs.Sets.{inSet}
+use Rattle.reader.specs.Fields.{policyPermission}
 use Rattle.reader.proofs.Accepted.{policy-fine}
+use Rattle.conflicts.specs.Rows.{overlapBy}
 use Rattle.conflicts.proofs.rows.overlap_by.Statement.{statement}
 use Rattle.conflicts.proofs.rows.overlap_by.Tie as tie
 
-mul-p : tie.Need-mul-p
-mul-p c = search needs
+-- the tests in turn, of plain values
+module _ (apart covered a : List ℕ) (i j : ℕ) (before : i < j) where
+  abbrev both : ℕ
+  both = bitAnd (getD covered i 0) (getD covered j 0)
 
-add-p : tie.Need-add-p
-add-p c = search needs
+  abbrev excluded : Bool
+  excluded = inSet (getD apart (policyPermission a i) 0) (policyPermission a j)
 
-shared-slice-read-p : tie.Need-shared-slice-read-p
-shared-slice-read-p c = search needs
+  no-role : both ≡ 0 → false ≡ overlapBy apart covered a i j
+  no-role none = rw (lt-ltb _ _ before, eq-eqb _ _ none) (sym (and-false excluded))
 
-cast-in-set : tie.Need-cast-in-set
-cast-in-set c = omega (arith, policy-fine 8 16 (c .before .before .args .a .now) (c .before .before .args .i) (c .before .before .pre .3) (lt-trans (c .before .before .pre .0) (c .before .before .pre .1)))
+  some-role : {r : Bool} → (both ≡ 0 → ⊥) → r ≡ excluded → r ≡ overlapBy apart covered a i j
+  some-role some e = rw (lt-ltb _ _ before, ne-eqb _ _ some, and-true excluded) e
+
+-- the entry
+module _ (s : tie.Start) where
+  abbrev a : List ℕ
+  a = s .args .a .now
+
+  abbrev i : ℕ
+  i = s .args .i
+
+  abbrev j : ℕ
+  j = s .args .j
+
+  abbrev before : i < j
+  before = s .pre .0
+
+  abbrev inside : j < length a / 8
+  inside = s .pre .1
+
+  first-small : policyPermission a i < 16
+  first-small = policy-fine 8 16 a i (s .pre .3) (lt-trans before inside) .permission
+
+  second-small : policyPermission a j < 16
+  second-small = policy-fine 8 16 a j (s .pre .3) inside .permission
+
+abbrev met : tie.After-if13 → tie.Start
+met c = c .before .before .before
+
+abbrev past : tie.Else1 → tie.Start
+past c = met (c .before)
+
+abbrev read1 : tie.After-shared-slice-known2 → tie.Start
+read1 c = past (c .before)
+
+abbrev read2 : tie.After-shared-slice-known3 → tie.Start
+read2 c = read1 (c .before .before)
+
+element-copy-out-if1 : tie.Need-element-copy-out-if1
+element-copy-out-if1 c = search needs
+
+element-copy-out-if1-2 : tie.Need-element-copy-out-if1-2
+element-copy-out-if1-2 c = search needs
+
+returns : tie.Need-returns
+returns c =
+    let s = met (c .before) in
+    no-role (s .args .apart .now) (s .args .covered .now) (a s) (i s) (j s) (before s) (c .if1 .taken)
 
 mul-in-set : tie.Need-mul-in-set
-mul-in-set c = omega (arith, policy-fine 8 16 (c .before .before .args .a .now) (c .before .before .args .i) (c .before .before .pre .3) (lt-trans (c .before .before .pre .0) (c .before .before .pre .1)))
-
-element-copy-out-in-set : tie.Need-element-copy-out-in-set
-element-copy-out-in-set c = omega (arith, policy-fine 8 16 (c .before .before .args .a .now) (c .before .before .args .i) (c .before .before .pre .3) (lt-trans (c .before .before .pre .0) (c .before .before .pre .1)))
-
-mul-in-set-2 : tie.Need-mul-in-set-2
-mul-in-set-2 c = search needs
+mul-in-set c = search needs
 
 add-in-set : tie.Need-add-in-set
 add-in-set c = search needs
@@ -33,36 +85,49 @@ add-in-set c = search needs
 shared-slice-read-in-set : tie.Need-shared-slice-read-in-set
 shared-slice-read-in-set c = search needs
 
+cast-in-set : tie.Need-cast-in-set
+cast-in-set c = omega (arith, first-small (read1 c))
+
+mul-in-set-2 : tie.Need-mul-in-set-2
+mul-in-set-2 c = omega (arith, first-small (read1 c))
+
+element-copy-out-in-set : tie.Need-element-copy-out-in-set
+element-copy-out-in-set c = first-small (read1 c)
+
+mul-in-set-3 : tie.Need-mul-in-set-3
+mul-in-set-3 c = search needs
+
+add-in-set-2 : tie.Need-add-in-set-2
+add-in-set-2 c = search needs
+
+shared-slice-read-in-set-2 : tie.Need-shared-slice-read-in-set-2
+shared-slice-read-in-set-2 c = search needs
+
 in-set-requires : tie.Need-in-set-requires
-in-set-requires c κs = omega (arith, policy-fine 8 16 (c .before .before .before .before .args .a .now) (c .before .before .before .before .args .j) (c .before .before .before .before .pre .3) (c .before .before .before .before .pre .1))
-
-returns : tie.Need-returns
-returns c = rw (lt-ltb _ _ (c .before .before .before .before .before .before .pre .0), ← c .before .in-set .ensures, not-true (c .before .in-set .result) (c .if1 .taken))
-
-element-copy-out-result : tie.Need-element-copy-out-result
-element-copy-out-result c = search needs
-
-element-copy-out-result-2 : tie.Need-element-copy-out-result-2
-element-copy-out-result-2 c = search needs
+in-set-requires c κs = omega (arith, second-small (read2 c))
 
 returns-2 : tie.Need-returns-2
-returns-2 c = rw (lt-ltb _ _ (c .before .before .before .before .before .before .before .before .pre .0), ← c .before .before .before .in-set .ensures, not-false (c .before .before .before .in-set .result) (c .before .before .if1 .left))
+returns-2 c =
+    let s = read2 (c .before) in
+    let reads = c .before .before in
+    let some = reads .before .before .if1 .left in
+    some-role (s .args .apart .now) (s .args .covered .now) (a s) (i s) (j s) (before s) some (c .in-set .ensures)
 
 pub overlap-by-spec : {M : Type 1} → statement M
 overlap-by-spec =
     tie.close
     (tie.spec
-    mul-p
-    add-p
-    shared-slice-read-p
-    cast-in-set
+    element-copy-out-if1
+    element-copy-out-if1-2
+    returns
     mul-in-set
-    element-copy-out-in-set
-    mul-in-set-2
     add-in-set
     shared-slice-read-in-set
+    cast-in-set
+    mul-in-set-2
+    element-copy-out-in-set
+    mul-in-set-3
+    add-in-set-2
+    shared-slice-read-in-set-2
     in-set-requires
-    returns
-    element-copy-out-result
-    element-copy-out-result-2
     returns-2)
