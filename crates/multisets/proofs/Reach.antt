@@ -94,7 +94,8 @@ module _ {sets nexts : List ℕ} (next-ends : NextEnds sets nexts) {d : ℕ} (mo
 
   module _ {k : ℕ} {ends from : List ℕ} (f : Filled d nexts k ends from) where
     -- no group ends before the end at its roles
-    pub least-of : (g : List Entry) → Stands sets d g → length (roleList g) ≤ 6 → 8 * first d (length (roleList g)) ≤ k →
+    pub least-of : (g : List Entry) → Stands sets d g → length (roleList g) ≤ 6 →
+        8 * first d (length (roleList g)) ≤ k →
         getD ends (first d (length (roleList g)) + rankOf (roleList g)) 0 ≤ endOf g
     least-of [] s few done = let z : first d 0 + 0 ≡ 0 = omega (arith, first-0 d) in rw (z, f .none) (omega arith)
     least-of (e ∷ g) s few done =
