@@ -39,9 +39,8 @@ fn stands_before(g: &[u8], i: usize) -> bool
     requires { ⌜ 2 * i < length (now g) ⌝ }
     ensures { λ r. ⌜ r ≡ standsBefore (now (g .entry)) i ⌝ }
 {
-    let user = g[2 * i];
     for j in 0..i {
-        if g[2 * j] == user {
+        if g[2 * j] == g[2 * i] {
             return true;
         }
     }

@@ -14,19 +14,13 @@ abbrev sameUser : List ℕ → ℕ → ℕ → Bool
 sameUser g i j = eqb (entryUser g j) (entryUser g i)
 
 abbrev Inv-loop : tie.InvT-loop
-Inv-loop g i user j₀ j = NoneYet i (sameUser g i) j
+Inv-loop g i j₀ j = NoneYet i (sameUser g i) j
 
 abbrev μ-loop : tie.MeasureT-loop
-μ-loop g i user j₀ j = i - j
+μ-loop g i j₀ j = i - j
 
 abbrev at-user : tie.After-shared-slice-known2 Inv-loop μ-loop → tie.In-loop Inv-loop μ-loop
-at-user c = c .before
-
-mul-user : tie.Need-mul-user Inv-loop μ-loop
-mul-user c = search needs
-
-shared-slice-read-user : tie.Need-shared-slice-read-user Inv-loop μ-loop
-shared-slice-read-user c = search needs
+at-user c = c .before .before
 
 loop-holds : tie.Need-loop-holds Inv-loop μ-loop
 loop-holds c = none-at-first
@@ -36,6 +30,12 @@ mul-if1 c = search needs
 
 shared-slice-read-if1 : tie.Need-shared-slice-read-if1 Inv-loop μ-loop
 shared-slice-read-if1 c = search needs
+
+mul-if1-2 : tie.Need-mul-if1-2 Inv-loop μ-loop
+mul-if1-2 c = search needs
+
+shared-slice-read-if1-2 : tie.Need-shared-slice-read-if1-2 Inv-loop μ-loop
+shared-slice-read-if1-2 c = search needs
 
 returns : tie.Need-returns Inv-loop μ-loop
 unfolding standsBefore
@@ -64,11 +64,11 @@ stands-before-spec =
     (tie.spec
     Inv-loop
     μ-loop
-    mul-user
-    shared-slice-read-user
     loop-holds
     mul-if1
     shared-slice-read-if1
+    mul-if1-2
+    shared-slice-read-if1-2
     returns
     add-j
     loop-less
