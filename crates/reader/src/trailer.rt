@@ -63,7 +63,14 @@ fn letters_bad(base: &[u8]) -> bool
     requires { ⌜ 36 ≤ length (now base) ⌝ }
     ensures { λ r. ⌜ r ≡ lettersBad (now (base .entry)) ⌝ }
 {
-    bytes::get32(base, base.len() - 4) != bytes::get32(b"LCAP", 0)
+    let letters = b"LCAP";
+    let at = base.len() - 36 + 32;
+    for i in 0..4usize {
+        if base[at + i] != letters[i] {
+            return true;
+        }
+    }
+    false
 }
 
 // The three zero bytes after R: with R as the lowest byte, the number in the four is below 256.
