@@ -1,35 +1,21 @@
 -- What the conflict list needs to know of the tables of an accepted base.
-use Prim.Native.Nat.{ℕ, _*_, _/_, _<_, _≤_}
+use Prim.Native.Nat.{ℕ, _/_, _<_, _≤_}
 use mathlib.Core.Bool.{Bool, true, false, cond}
-use mathlib.Core.Path.{_≡_, _∙_}
+use mathlib.Core.Path.{_≡_}
 use mathlib.Core.List.{List}
 use native.Mathlib.Omega.{arith}
-use native.Mathlib.Nat.{lt-of-not-le, lt-of-lt-of-le, mul-comm}
+use native.Mathlib.Nat.{lt-of-lt-of-le}
 use borrow.Author.Tests.{lt-ltb, le-ltb}
 use Rattle.folds.proofs.Tests.{any-each}
-use lib.ListN.{length, List·getD-eq-default}
+use lib.ListN.{length}
 use lib.Dec.{eqb, lit<}
-use Rattle.reader.specs.Tables.{width, limit, users, contexts, policies, exclusions, recordCount, tableOf}
+use Rattle.reader.specs.Tables.{limit, users, policies, exclusions, recordCount, tableOf}
 use Rattle.reader.specs.Rules.{exclusionBad, exclusionsBad, refusalOf}
-use Rattle.reader.proofs.Frame.{table-length, record-count, count-limit}
+use Rattle.reader.proofs.Frame.{record-count, count-limit}
 use Rattle.reader.proofs.Accepted.{accepted, exclusion-fine}
-use Rattle.reader.specs.Fields.{contextLength, exclusionKind, exclusionFirst, exclusionSecond}
+use Rattle.reader.specs.Fields.{exclusionKind, exclusionFirst, exclusionSecond}
 
--- a clause with conditions lies in the table
-pub inside-table : (c : List ℕ) → length c ≡ 16 * recordCount contexts c → (i : ℕ) → 0 < contextLength c i →
-    i < recordCount contexts c
-inside-table c w i h =
-    lt-of-not-le (λ l. let e : contextLength c i ≡ 0 = List·getD-eq-default c 0 (omega arith) in absurd (omega arith))
-
--- a table of an accepted base has whole records, and at most its limit of them
-pub whole-records : (b : List ℕ) → refusalOf b ≡ 0 → (t : ℕ) → t < 7 →
-    length (tableOf b t) ≡ recordCount t (tableOf b t) * width t
-whole-records b ok t l = let f = accepted b ok .frame in rw (record-count b f t l) (table-length b f t l)
-
-pub whole-contexts : (b : List ℕ) → refusalOf b ≡ 0 →
-    length (tableOf b contexts) ≡ 16 * recordCount contexts (tableOf b contexts)
-whole-contexts b ok = whole-records b ok 4 (lit< tt) ∙ mul-comm (recordCount contexts (tableOf b contexts)) 16
-
+-- a table of an accepted base has at most its limit of records
 pub records-le : (b : List ℕ) → refusalOf b ≡ 0 → (t : ℕ) → t < 7 → recordCount t (tableOf b t) ≤ limit t
 records-le b ok t l = let f = accepted b ok .frame in rw (record-count b f t l) (count-limit b f t l)
 

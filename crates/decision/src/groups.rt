@@ -1,6 +1,6 @@
 // A group's entries and its attributes: refusals 12 to 16.
 ghost use mathlib.Core.Path.{_≡_};
-ghost use Prim.Native.Nat.{ℕ, _+_, _*_, _/_, _≤_, _<_};
+ghost use Prim.Native.Nat.{ℕ, _*_, _≤_, _<_};
 ghost use lib.ListN.{length, getD};
 ghost use Rattle.weights.specs.Acting.{mayActBy};
 ghost use Rattle.decision.specs.Groups.{entryCount, entryRole, sumOf, rolesOf, lengthRefused, someUnknown};

@@ -1,10 +1,9 @@
 -- The masks as clause after clause is struck out.
-use Prim.Native.Nat.{ℕ, zero, suc, _+_, _-_, _*_, _/_, _%_, _^_, _<_, _≤_}
-use mathlib.Core.Bool.{Bool, true, false, _&&_, _||_, not, and-true, and-false, or-true, or-false}
+use Prim.Native.Nat.{ℕ, zero, suc, _+_, _-_, _/_, _%_, _^_, _<_, _≤_}
+use mathlib.Core.Bool.{Bool, true, false, _&&_, _||_, not, and-true, or-true, or-false}
 use mathlib.Core.Path.{_≡_, refl, sym, _∙_}
 use mathlib.Core.Logic.{⊎-elim}
 use mathlib.Core.List.{List}
-use native.Mathlib.Nat.{le-trans}
 use native.Mathlib.Omega.{arith}
 use borrow.Author.Tests.{eq-eqb, eqb-true}
 use lib.Dec.{eqb, eqb·suc-suc, eqb·suc-zero, eqb·zero-suc}
@@ -13,7 +12,7 @@ use lib.Pow.{pow-pos}
 use Rattle.folds.specs.Sets.{inSet}
 use Rattle.folds.proofs.Bools.{met-or-not, and-left}
 use Rattle.folds.proofs.Lists.{stored}
-use Rattle.folds.proofs.Sets.{in-half, in-none, in-set-below}
+use Rattle.folds.proofs.Sets.{in-half, in-set-below}
 use Rattle.masks.specs.Clauses.{met, Struck, StruckAll, Room, AllBut, Narrowed, NarrowedAll, Filled}
 use Rattle.masks.proofs.Conditions.{room-after}
 

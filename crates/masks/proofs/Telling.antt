@@ -1,19 +1,19 @@
 -- The masks of a permission tell whether its condition holds.
-use Prim.Native.Nat.{ℕ, zero, suc, _+_, _*_, _^_, _<_, _≤_}
+use Prim.Native.Nat.{ℕ, zero, suc, _^_, _<_, _≤_}
 use mathlib.Core.Bool.{Bool, true, false, _&&_, _||_, not, cond, and-false}
 use mathlib.Core.Path.{_≡_, refl, sym, ap, _∙_}
 use mathlib.Core.Logic.{_⊎_, ⊎-elim}
 use mathlib.Core.List.{List}
-use native.Mathlib.Nat.{lt-of-lt-of-le, not-suc-le-zero}
+use native.Mathlib.Nat.{lt-of-lt-of-le}
 use native.Mathlib.Omega.{arith}
-use borrow.Author.Tests.{lt-ltb, le-ltb, ltb-true, ltb-false, eqb-true, eqb-false}
+use borrow.Author.Tests.{lt-ltb, eqb-true, eqb-false}
 use lib.Bits.{bitAnd, bitOr}
 use lib.Dec.{eqb, ltb, lit<}
-use lib.ListN.{length, getD}
+use lib.ListN.{getD}
 use lib.Pow.{pow-pos}
 use Rattle.folds.specs.Below.{allBelow, anyBelow}
 use Rattle.folds.specs.Sets.{inSet}
-use Rattle.folds.proofs.Bools.{met-or-not, clash, same-test, and-left, and-right, and-both}
+use Rattle.folds.proofs.Bools.{met-or-not, same-test, and-left, and-right, and-both}
 use Rattle.folds.proofs.Tests.{all-same, all-stop, any-same, any-each, any-at}
 use Rattle.folds.proofs.Sets.{in-and, in-or, in-none, in-set, in-set-below, same-set}
 use Rattle.reader.specs.Tables.{clauses, recordCount}
@@ -171,7 +171,3 @@ bare k p e n sum set = any-each (clauseOfHolds k p n sum set) (recordCount claus
     let own : eqb (clausePermission k i) p ≡ false =
     sym (in-set (λ i. eqb (clausePermission k i) p) (recordCount clauses k) i l)
     ∙ ap (λ (s : ℕ). inSet s i) e ∙ in-none i in rw own)
-
--- a row without clauses is met by nothing
-pub unmet : (sums sets : List ℕ) (sum set : ℕ) → metBy 0 sums sets sum set ≡ false
-unmet sums sets sum set = refl

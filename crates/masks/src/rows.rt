@@ -1,5 +1,4 @@
 // For each number of entries more the clauses that may be met with so many.
-ghost use mathlib.Core.Path.{_≡_};
 ghost use Prim.Native.Nat.{_+_, _-_, _*_, _≤_};
 ghost use lib.ListN.{length};
 ghost use Rattle.masks.specs.Rows.{Joined, RowFor, Rows};

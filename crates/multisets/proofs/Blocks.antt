@@ -1,7 +1,7 @@
 -- The blocks of the ranks, and a role more.
 use Prim.Native.Nat.{ℕ, zero, suc, _+_, _-_, _*_, _<_, _≤_}
-use mathlib.Core.Bool.{Bool, true, false, cond}
-use mathlib.Core.Path.{_≡_, refl, sym, ap, _∙_}
+use mathlib.Core.Bool.{Bool}
+use mathlib.Core.Path.{_≡_, refl, _∙_}
 use mathlib.Core.Logic.{⊎-elim}
 use mathlib.Core.List.{List, [], _∷_}
 use native.Mathlib.Omega.{arith}
@@ -13,7 +13,7 @@ use Rattle.folds.specs.Below.{firstBelow, sumBelow}
 use Rattle.folds.proofs.Bools.{met-or-not}
 use Rattle.folds.proofs.Numbers.{sum-step, sum-le-sum}
 use Rattle.folds.proofs.Tests.{first-is, first-lt, first-at, first-least, any-found}
-use Rattle.multisets.specs.Ranks.{starts, first, top, total, more, rankOf, Roles}
+use Rattle.multisets.specs.Ranks.{starts, top, total, more, rankOf, Roles}
 use Rattle.multisets.specs.Values.{sumOver}
 
 -- a block is as long as there are multisets of a role less

@@ -6,7 +6,6 @@ use native.Mathlib.Omega.{arith}
 use lib.ListN.{length, getD, set, drop, length-append}
 use lib.Seq.{sets, sets-eq, set-comm}
 use Rattle.folds.proofs.Lists.{sets-append}
-use Rattle.multisets.specs.Rising.{Entry}
 use Rattle.multisets.specs.Standing.{bytesBack}
 use Rattle.multisets.specs.Ends.{backOf, Way}
 

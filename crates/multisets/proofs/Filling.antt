@@ -1,10 +1,10 @@
 -- The least ends, one entry after another: an entry is a multiset with a role more.
-use Prim.Native.Nat.{ℕ, zero, suc, _+_, _-_, _*_, _/_, _%_, _<_, _≤_}
-use mathlib.Core.Path.{_≡_, refl, sym, ap, _∙_}
+use Prim.Native.Nat.{ℕ, suc, _+_, _*_, _<_, _≤_}
+use mathlib.Core.Path.{_≡_, refl, _∙_}
 use mathlib.Core.Logic.{⊎-elim}
 use mathlib.Core.List.{List}
 use native.Mathlib.Omega.{arith}
-use native.Mathlib.Nat.{le-trans, le-of-lt, lt-irrefl, le-refl}
+use native.Mathlib.Nat.{lt-irrefl, le-refl}
 use borrow.Author.Tests.{eqb-true, eqb-false, leb-true, leb-false, ltb-true, ltb-false}
 use lib.Dec.{eqb, leb, ltb}
 use lib.ListN.{length, getD, set, length-set}
@@ -12,7 +12,7 @@ use lib.Seq.{getD-set-same, getD-set-other}
 use Rattle.folds.proofs.Bools.{met-or-not}
 use Rattle.multisets.specs.Ranks.{starts, first, more}
 use Rattle.multisets.specs.Ends.{NextTable, Grows, Came, Filled, Relaxed}
-use Rattle.multisets.proofs.Places.{first-le, first-0, first-1, grows-within, grows-ahead, grows-one}
+use Rattle.multisets.proofs.Places.{first-le, first-1, grows-within, grows-ahead, grows-one}
 
 -- an end came by one of more entries too
 came-later : {d : ℕ} {nexts ends : List ℕ} {k l x c : ℕ} → k ≤ l → Came d nexts k ends x c → Came d nexts l ends x c

@@ -1,6 +1,6 @@
 -- What the least ends tell of groups.
 use Prim.Native.Nat.{ℕ, zero, suc, _+_, _-_, _*_, _/_, _%_, _<_, _≤_}
-use mathlib.Core.Bool.{Bool, true, false, _&&_}
+use mathlib.Core.Bool.{Bool, true, _&&_}
 use mathlib.Core.Path.{_≡_, refl, sym, ap, _∙_}
 use mathlib.Core.Logic.{⊎-elim}
 use mathlib.Core.List.{List, [], _∷_}
@@ -16,8 +16,8 @@ use Rattle.folds.proofs.Tests.{first-at, first-least, first-le}
 use Rattle.folds.proofs.Sets.{in-none}
 use Rattle.multisets.specs.Ranks.{starts, first, more, rankOf, Roles}
 use Rattle.multisets.specs.Rising.{Entry}
-use Rattle.multisets.specs.Standing.{Acts, endOf, Stands, roleList}
-use Rattle.multisets.specs.Ends.{Next, NextEnd, NextEnds, Grows, Came, Filled, backOf, Way, Back}
+use Rattle.multisets.specs.Standing.{endOf, Stands, roleList}
+use Rattle.multisets.specs.Ends.{Next, NextEnd, NextEnds, Grows, Came, Filled, backOf, Back}
 use Rattle.multisets.proofs.Blocks.{rank-lt}
 use Rattle.multisets.proofs.Places.{first-more, first-0, first-1, place-lt, one-level, grows-lt}
 use Rattle.multisets.proofs.Places as places

@@ -1,6 +1,6 @@
 -- The rows: how far the rank of a multiset lies behind with each role more, from the row without its largest role.
-use Prim.Native.Nat.{ℕ, zero, suc, _+_, _-_, _*_, _<_, _≤_}
-use mathlib.Core.Path.{_≡_, refl, sym, ap, _∙_}
+use Prim.Native.Nat.{ℕ, zero, suc, _+_, _*_, _<_, _≤_}
+use mathlib.Core.Path.{_≡_, _∙_}
 use mathlib.Core.Logic.{⊎-elim}
 use mathlib.Core.List.{List}
 use native.Mathlib.Omega.{arith}
@@ -12,9 +12,9 @@ use Rattle.folds.proofs.Bools.{met-or-not}
 use Rattle.multisets.specs.Ranks.{starts, first, more}
 use Rattle.multisets.specs.Values.{Written}
 use Rattle.multisets.specs.Levels.{Ups, Rows, Fixed, Kept}
-use Rattle.multisets.proofs.Blocks.{block, starts-le, starts-none, starts-empty}
+use Rattle.multisets.proofs.Blocks.{block, starts-le, starts-none}
 use Rattle.multisets.proofs.Blocks.{more-low, more-high, more-lt, more-none}
-use Rattle.multisets.proofs.Places.{first-more, first-le, first-0, first-1, first-all, place-lt, one-level}
+use Rattle.multisets.proofs.Places.{first-more, first-le, first-all, place-lt, one-level}
 
 -- a role more makes no fewer multisets
 pub starts-more : (n d : ℕ) → starts (suc n) d ≤ starts (suc (suc n)) d

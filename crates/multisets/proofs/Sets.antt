@@ -1,7 +1,7 @@
 -- The sets of multisets of roles.
 use Prim.Native.Nat.{ℕ, suc, _+_, _^_, _<_, _≤_}
 use mathlib.Core.Bool.{Bool, true, false, cond, _||_, or-false, or-true}
-use mathlib.Core.Path.{_≡_, refl, sym, ap, _∙_}
+use mathlib.Core.Path.{_≡_, sym, ap, _∙_}
 use mathlib.Core.List.{List, [], _∷_}
 use native.Mathlib.Omega.{arith}
 use borrow.Author.Tests.{lt-ltb, le-ltb, ne-eqb}

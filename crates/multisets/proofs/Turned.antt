@@ -1,15 +1,14 @@
 -- Entries turned round: a group by rising user stands the other way round, and back.
-use Prim.Native.Nat.{ℕ, suc, _+_, _^_, _<_, _≤_}
-use mathlib.Core.Bool.{true}
+use Prim.Native.Nat.{ℕ, _+_, _^_, _<_, _≤_}
 use mathlib.Core.Path.{_≡_, refl, sym, ap, _∙_}
 use mathlib.Core.List.{List, [], _∷_, _++_, append-nil, append-assoc}
 use native.Mathlib.Omega.{arith}
-use native.Mathlib.Nat.{le-trans, add-zero, le-refl}
+use native.Mathlib.Nat.{le-trans, le-refl}
 use lib.ListN.{length, getD}
 use lib.Bits.{bitOr, or-comm, or-zero-l}
 use Rattle.folds.proofs.Sets.{or-assoc}
 use Rattle.multisets.specs.Ranks.{Roles}
-use Rattle.multisets.specs.Rising.{Entry, May, Rises, entriesSum, entriesRoles, bytesOf}
+use Rattle.multisets.specs.Rising.{Entry, Rises, entriesSum, entriesRoles, bytesOf}
 use Rattle.multisets.specs.Standing.{Acts, endOf, Stands, roleList, bytesBack}
 use Rattle.multisets.specs.Values.{sumOver, setOf}
 

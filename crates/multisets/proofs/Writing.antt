@@ -1,5 +1,5 @@
 -- Numbers written one behind the other.
-use Prim.Native.Nat.{ℕ, _+_, _<_, _≤_}
+use Prim.Native.Nat.{ℕ, _+_, _<_}
 use mathlib.Core.Path.{_≡_, refl, _∙_}
 use mathlib.Core.List.{List}
 use mathlib.Core.Logic.{⊎-elim}

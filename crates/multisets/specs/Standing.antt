@@ -1,10 +1,9 @@
 -- Groups as lists of entries the other way round: the last entry first. Working notions of the search.
-use Prim.Native.Nat.{ℕ, _+_, _^_, _<_, _≤_}
+use Prim.Native.Nat.{ℕ, _+_, _<_, _≤_}
 use mathlib.Core.Bool.{true}
 use mathlib.Core.Path.{_≡_}
 use mathlib.Core.List.{List, [], _∷_, _++_}
 use lib.ListN.{getD}
-use lib.Bits.{bitOr}
 use Rattle.folds.specs.Sets.{inSet}
 use Rattle.multisets.specs.Rising.{Entry}
 

@@ -1,10 +1,8 @@
 // The least ends of groups, by the multiset of their roles.
 ghost use mathlib.Core.Path.{_≡_};
-ghost use Prim.Native.Nat.{ℕ, suc, _+_, _*_, _≤_, _<_};
-ghost use mathlib.Core.List.{List};
+ghost use Prim.Native.Nat.{ℕ, _+_, _*_, _≤_, _<_};
 ghost use lib.ListN.{length, getD};
 ghost use Rattle.folds.specs.Sets.{inSet};
-ghost use Rattle.multisets.specs.Ranks.{first};
 ghost use Rattle.multisets.specs.Ends.{NextEnd, NextEnds, NextTable, Filled, Relaxed};
 ghost use Rattle.multisets.specs.Levels.{Pushing};
 

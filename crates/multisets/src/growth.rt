@@ -6,7 +6,7 @@ ghost use mathlib.Core.Path.{_≡_};
 ghost use Prim.Native.Nat.{ℕ, suc, _+_, _*_, _≤_, _<_};
 ghost use lib.ListN.{length, getD};
 ghost use Rattle.multisets.specs.Ranks.{starts, first, Starts};
-ghost use Rattle.multisets.specs.Ends.{NextTable, Filled};
+ghost use Rattle.multisets.specs.Ends.{NextTable};
 ghost use Rattle.multisets.specs.Values.{Written};
 ghost use Rattle.multisets.specs.Levels.{Fixed, Kept, Grown};
 

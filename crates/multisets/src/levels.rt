@@ -1,11 +1,9 @@
 // The tables of a search, level by level.
 use crate::growth;
 use crate::values;
-ghost use mathlib.Core.Path.{_≡_};
 ghost use mathlib.Core.List.{List};
-ghost use Prim.Native.Nat.{ℕ, suc, _+_, _*_, _≤_, _<_};
-ghost use lib.ListN.{length, getD};
-ghost use Rattle.multisets.specs.Ranks.{first, Starts};
+ghost use Prim.Native.Nat.{ℕ, suc, _≤_};
+ghost use Rattle.multisets.specs.Ranks.{Starts};
 ghost use Rattle.multisets.specs.Ends.{NextTable};
 ghost use Rattle.multisets.specs.Levels.{Levels, Blank};
 

@@ -20,7 +20,7 @@ pub width-le : (t : ℕ) → t < 7 → width t ≤ 16
 unfolding allBelow
 width-le t h = leb-true _ _ (all-at (λ k. leb (width k) 16) 7 refl t h)
 
-pub width-pos : (t : ℕ) → t < 7 → 0 < width t
+width-pos : (t : ℕ) → t < 7 → 0 < width t
 unfolding allBelow
 width-pos t h = ltb-true _ _ (all-at (λ k. ltb 0 (width k)) 7 refl t h)
 
@@ -89,7 +89,7 @@ module _ (b : List ℕ) (ok : frameRefusal b ≡ 0) (t : ℕ) (there : t < 7) wh
   pub size-le : tableSize b t ≤ 1024
   size-le = records-size t (tableCount b t) there count-limit
 
-  pub offset-start : tableOffset b t ≡ tableStart b t
+  offset-start : tableOffset b t ≡ tableStart b t
   offset-start = eqb-true _ _ (not-false _ (or-right (ltb (limit t) (tableCount b t)) _ table-fine))
 
   -- table t ends where the trailer starts, or before

@@ -2,7 +2,7 @@
 use crate::PERMISSIONS;
 use crate::bytes;
 ghost use mathlib.Core.Path.{_≡_};
-ghost use Prim.Native.Nat.{_+_, _≤_, _<_};
+ghost use Prim.Native.Nat.{_≤_, _<_};
 ghost use lib.ListN.{length};
 ghost use Rattle.reader.specs.Tables.{width, limit, tableOffset, tableCount, roleCount, lengthBad, lettersBad};
 ghost use Rattle.reader.specs.Tables.{reservedBad, tablesBad, trailerBad, frameRefusal, tableOf, permissionCount};

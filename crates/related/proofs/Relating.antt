@@ -4,18 +4,19 @@ use mathlib.Core.Bool.{Bool, true, false, _&&_, _||_, cond, and-comm, or-true, o
 use mathlib.Core.Path.{_≡_, refl, sym, _∙_}
 use mathlib.Core.Logic.{_⊎_, inl, inr, ⊎-elim}
 use mathlib.Core.List.{List}
-use native.Mathlib.Nat.{le-refl, lt-of-not-le}
+use native.Mathlib.Nat.{le-refl, lt-of-not-le, mul-comm}
 use native.Mathlib.Omega.{arith}
 use borrow.Author.Tests.{ltb-true, ltb-false, leb-true, leb-false, eqb-true, not-false, lt-ltb, le-ltb, eq-eqb}
-use lib.Dec.{ltb, eqb}
+use lib.Dec.{ltb, eqb, lit<}
 use lib.ListN.{length, List·getD-eq-default}
 use Rattle.folds.specs.Below.{anyBelow}
 use Rattle.folds.proofs.Bools.{and-left, and-right, and-both, and-either, or-left, or-either, met-or-not, same-test}
 use Rattle.folds.proofs.Tests.{all-at, all-each, all-fails, any-found, any-some, any-next, any-same}
-use Rattle.reader.specs.Tables.{contexts, recordCount}
+use Rattle.reader.specs.Tables.{contexts, recordCount, tableOf}
 use Rattle.reader.specs.Fields.{contextLength, contextParameter, contextOperator, contextValue}
-use Rattle.reader.specs.Rules.{rangeOf, contextsBad}
-use Rattle.reader.proofs.Accepted.{ContextConditionFine, context-fine}
+use Rattle.reader.specs.Rules.{rangeOf, contextsBad, refusalOf}
+use Rattle.reader.proofs.Frame.{table-length, record-count}
+use Rattle.reader.proofs.Accepted.{ContextConditionFine, context-fine, accepted}
 use Rattle.weights.specs.declared.Context.{Context}
 use Rattle.weights.specs.Operators.{meets}
 use Rattle.weights.specs.Contexts.{valueOf, contextConditionHolds, contextClauseHolds, clauseOfHolds, contextHolds}
@@ -240,3 +241,11 @@ module _ (c : List ℕ) where
             related-found x y at r
             (and-both (number-held at x i li (and-left (clauseOf c x i) _ hi) ci)
             (number-held at y j lj (and-left (clauseOf c y j) _ hj) cj))
+
+-- the table C of an accepted base has whole records, as the law asks
+pub whole-contexts : (b : List ℕ) → refusalOf b ≡ 0 →
+    length (tableOf b contexts) ≡ 16 * recordCount contexts (tableOf b contexts)
+whole-contexts b ok = whole ∙ mul-comm (recordCount contexts (tableOf b contexts)) 16
+  where
+    whole : length (tableOf b contexts) ≡ recordCount contexts (tableOf b contexts) * 16
+    whole = let f = accepted b ok .frame in rw (record-count b f 4 (lit< tt)) (table-length b f 4 (lit< tt))

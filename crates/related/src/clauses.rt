@@ -2,7 +2,7 @@
 use reader::bytes;
 ghost use mathlib.Core.Path.{_≡_};
 ghost use mathlib.Core.Bool.{false};
-ghost use Prim.Native.Nat.{_+_, _*_, _/_, _≤_, _<_};
+ghost use Prim.Native.Nat.{_+_, _*_, _≤_, _<_};
 ghost use lib.ListN.{length};
 ghost use Rattle.reader.specs.Tables.{contexts, recordCount};
 ghost use Rattle.reader.specs.Fields.{contextLength};

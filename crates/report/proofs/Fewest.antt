@@ -1,14 +1,13 @@
 -- What the search by masks finds is what the permission's condition asks for.
-use Prim.Native.Nat.{ℕ, suc, _+_, _-_, _*_, _^_, _<_, _≤_}
-use mathlib.Core.Bool.{Bool, true, false, _&&_, _||_, not}
-use mathlib.Core.Path.{_≡_, refl, sym, ap, _∙_}
-use mathlib.Core.Logic.{_⊎_, inl, inr, ⊎-elim}
+use Prim.Native.Nat.{ℕ, _+_, _-_, _*_, _^_, _<_, _≤_}
+use mathlib.Core.Bool.{Bool, true, false}
+use mathlib.Core.Path.{_≡_, refl, sym, _∙_}
+use mathlib.Core.Logic.{⊎-elim}
 use mathlib.Core.List.{List, [], _∷_}
 use native.Mathlib.Omega.{arith}
-use native.Mathlib.Nat.{le-trans}
 use borrow.Author.Tests.{leb-true, leb-false, lt-ltb, eqb-true, eqb-false}
-use lib.Bits.{bitAnd, bitOr, or-lt}
-use lib.Dec.{leb, ltb, eqb}
+use lib.Bits.{bitOr, or-lt}
+use lib.Dec.{leb, eqb}
 use lib.Pow.{pow-lt, pow-pos}
 use lib.ListN.{length, getD}
 use Rattle.folds.specs.Sets.{inSet}
@@ -16,7 +15,7 @@ use Rattle.folds.proofs.Bools.{met-or-not, clash, or-either}
 use Rattle.folds.proofs.Sets.{in-none, in-or, in-one}
 use Rattle.decision.specs.Conditions.{permissionHolds}
 use Rattle.multisets.specs.Rising.{Entry, Rises, entriesSum, entriesRoles}
-use Rattle.seek.specs.Search.{metBy, byMasks, Meets, Sought, Answered}
+use Rattle.seek.specs.Search.{metBy, byMasks, Meets, Answered}
 use Rattle.masks.specs.declared.Placed.{Placed}
 use Rattle.masks.specs.declared.Weighed.{Weighed}
 use Rattle.report.specs.Search.{holdsWith, WeighedBelow, LastRow}

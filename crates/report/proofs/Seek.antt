@@ -1,18 +1,16 @@
 -- What the search is handed suffices for the masks and for the search by masks.
-use Prim.Native.Nat.{ℕ, suc, _+_, _-_, _*_, _^_, _<_, _≤_}
-use mathlib.Core.Bool.{Bool, true, false, _&&_, and-false}
-use mathlib.Core.Path.{_≡_, refl, sym, ap, _∙_}
+use Prim.Native.Nat.{ℕ, _+_, _-_, _*_, _^_, _<_, _≤_}
+use mathlib.Core.Bool.{false, and-false}
+use mathlib.Core.Path.{_≡_, refl}
 use mathlib.Core.Logic.{⊎-elim}
 use mathlib.Core.List.{List, [], _∷_}
 use native.Mathlib.Omega.{arith}
 use native.Mathlib.Nat.{mul-le-mul, le-refl, eq-zero-or-pos}
 use borrow.Author.Tests.{leb-true, leb-false}
-use lib.Bits.{bitOr}
 use lib.Dec.{leb, ltb}
-use lib.ListN.{length, getD}
+use lib.ListN.{length}
 use Rattle.folds.proofs.Bools.{met-or-not}
 use Rattle.reader.specs.Tables.{clauses, recordCount}
-use Rattle.decision.specs.Conditions.{permissionHolds}
 use Rattle.multisets.specs.Rising.{Entry, Rises, entriesSum, entriesRoles}
 use Rattle.multisets.specs.Ends.{NextEnds}
 use Rattle.seek.specs.Search.{Ready, Answered}

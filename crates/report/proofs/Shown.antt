@@ -1,21 +1,21 @@
 -- What the search finds from nothing placed is a smallest granted group.
-use Prim.Native.Nat.{ℕ, suc, _+_, _-_, _*_, _<_, _≤_}
-use mathlib.Core.Bool.{Bool, true, false, _&&_}
-use mathlib.Core.Path.{_≡_, refl, sym, ap, _∙_}
+use Prim.Native.Nat.{ℕ, _+_, _-_, _*_, _<_, _≤_}
+use mathlib.Core.Bool.{Bool, true, false}
+use mathlib.Core.Path.{_≡_, ap, _∙_}
 use mathlib.Core.Logic.{_↔_, ⊎-elim}
 use mathlib.Core.List.{List, [], _∷_, _++_}
 use native.Mathlib.Omega.{arith}
-use native.Mathlib.Nat.{eq-or-lt-of-le, zero-add}
+use native.Mathlib.Nat.{zero-add}
 use borrow.Author.Tests.{lt-ltb, ltb-true}
 use lib.Bits.{bitOr, or-zero-l}
 use lib.Dec.{ltb}
-use lib.ListN.{length, getD, replicate}
-use Rattle.folds.proofs.Bools.{met-or-not, clash, and-left, and-right, and-both}
+use lib.ListN.{length, replicate}
+use Rattle.folds.proofs.Bools.{met-or-not, and-left, and-right, and-both}
 use Rattle.decision.specs.Groups.{entryUser}
 use Rattle.decision.specs.Conditions.{permissionHolds}
 use Rattle.decision.specs.Granting.{Granted}
-use Rattle.multisets.specs.Rising.{Entry, Rises, entriesSum, entriesRoles, bytesOf}
-use Rattle.seek.specs.Search.{Meets, Sought, Answered, groupBytes}
+use Rattle.multisets.specs.Rising.{Entry, entriesSum, entriesRoles, bytesOf}
+use Rattle.seek.specs.Search.{Meets, Answered}
 use Rattle.masks.specs.declared.Placed.{Placed}
 use Rattle.report.specs.Smallest.{smallest}
 use Rattle.report.specs.Search.{holdsWith}

@@ -6,12 +6,11 @@ use reader::bytes;
 use seek::Found;
 ghost use mathlib.Core.Path.{_≡_};
 ghost use mathlib.Core.List.{List};
-ghost use Prim.Native.Nat.{ℕ, _+_, _-_, _*_, _^_, _≤_, _<_};
-ghost use lib.ListN.{length, getD};
+ghost use Prim.Native.Nat.{ℕ, _-_, _≤_};
+ghost use lib.ListN.{length};
 ghost use Rattle.multisets.specs.Ranks.{first, Starts};
 ghost use Rattle.multisets.specs.Ends.{NextEnds};
 ghost use Rattle.multisets.specs.Levels.{Levels};
-ghost use Rattle.multisets.specs.Values.{Light};
 ghost use Rattle.seek.specs.Search.{Answered};
 ghost use Rattle.report.specs.Search.{holdsWith, LastRow, Seeking};
 

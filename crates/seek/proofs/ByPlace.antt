@@ -1,21 +1,20 @@
 -- Entries of n roles meet a condition exactly where a place of the multisets of n roles does.
 use Prim.Native.Nat.{ℕ, suc, _+_, _*_, _^_, _<_, _≤_}
-use mathlib.Core.Bool.{Bool, true, false, or-true, _&&_, _||_}
+use mathlib.Core.Bool.{Bool, true, or-true, _||_}
 use mathlib.Core.Path.{_≡_, refl, sym, ap, _∙_}
-use mathlib.Core.Logic.{⊎-elim}
 use mathlib.Core.List.{List, [], _∷_, append-nil}
 use native.Mathlib.Omega.{arith}
 use native.Mathlib.Nat.{add-zero, lt-of-lt-of-le}
 use borrow.Author.Tests.{eq-eqb, ltb-true, lt-ltb}
 use lib.Bits.{bitOr, or-comm, or-zero-r}
-use lib.Dec.{eqb, ltb}
+use lib.Dec.{eqb}
 use lib.ListN.{length, getD}
 use Rattle.folds.specs.Sets.{inSet}
 use Rattle.folds.proofs.Bools.{and-left, and-right, and-both}
 use Rattle.folds.proofs.Sets.{in-added}
-use Rattle.multisets.specs.Ranks.{starts, first, rankOf, Roles, total}
+use Rattle.multisets.specs.Ranks.{starts, first, rankOf, Roles}
 use Rattle.multisets.specs.Rising.{Entry, Rises, entriesSum, entriesRoles, bytesOf}
-use Rattle.multisets.specs.Standing.{endOf, Stands, roleList, bytesBack}
+use Rattle.multisets.specs.Standing.{Stands, roleList, bytesBack}
 use Rattle.multisets.specs.Values.{sumOver, setOf, Held, sumAt, setAt}
 use Rattle.multisets.specs.Ends.{NextEnds, Filled, Back, backOf}
 use Rattle.seek.specs.Search.{metAt}

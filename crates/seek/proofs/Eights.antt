@@ -1,16 +1,16 @@
 -- Eight places at a time: where the clauses of all together miss the row, each misses it.
-use Prim.Native.Nat.{ℕ, zero, suc, _+_, _-_, _*_, _^_, _<_, _≤_}
-use mathlib.Core.Bool.{Bool, true, false, _&&_, not, or-true}
+use Prim.Native.Nat.{ℕ, zero, suc, _+_, _-_, _^_, _<_, _≤_}
+use mathlib.Core.Bool.{Bool, true, false, _&&_, or-true}
 use mathlib.Core.Path.{_≡_, refl, sym, ap, _∙_}
 use mathlib.Core.Logic.{inl, inr, ⊎-elim}
 use mathlib.Core.List.{List}
 use native.Mathlib.Omega.{arith}
 use native.Mathlib.Nat.{eq-or-lt-of-le, le-of-suc-le-suc, lt-of-lt-of-le, lt-irrefl}
 use native.Mathlib.Numerals.{add-one}
-use borrow.Author.Tests.{ne-eqb, eqb-true, eqb-false, leb-true, leb-false}
+use borrow.Author.Tests.{ne-eqb, eqb-false, leb-true, leb-false}
 use lib.Bits.{bitAnd, bitOr}
 use lib.Dec.{eqb, leb, lit<}
-use lib.ListN.{length, getD}
+use lib.ListN.{getD}
 use lib.Pow.{pow-mono}
 use Rattle.folds.specs.Sets.{inSet}
 use Rattle.folds.specs.Below.{anyBelow}

@@ -1,19 +1,17 @@
 -- A level tried: the place found, or that no entries of so many roles meet the row.
-use Prim.Native.Nat.{ℕ, suc, _+_, _*_, _^_, _<_, _≤_}
-use mathlib.Core.Bool.{Bool, true, false, not}
-use mathlib.Core.Path.{_≡_, refl, sym, ap, _∙_}
+use Prim.Native.Nat.{ℕ, _+_, _^_, _<_}
+use mathlib.Core.Bool.{true, false}
+use mathlib.Core.Path.{_≡_, refl}
 use mathlib.Core.Logic.{⊎-elim}
 use mathlib.Core.List.{List}
-use native.Mathlib.Omega.{arith}
 use native.Mathlib.Nat.{eq-zero-or-pos, le-refl, lt-irrefl}
 use lib.Bits.{bitAnd, and-zero-r}
-use lib.Dec.{eqb}
-use lib.ListN.{length, getD}
+use lib.ListN.{getD}
 use Rattle.folds.specs.Sets.{inSet}
 use Rattle.folds.proofs.Bools.{clash}
 use Rattle.multisets.specs.Ranks.{starts, first}
-use Rattle.multisets.specs.Rising.{Entry, entriesSum, entriesRoles}
-use Rattle.seek.specs.Search.{metBy, metAt, FoundIn, Asked, Meets, FoundBack, TriedAt}
+use Rattle.multisets.specs.Rising.{entriesSum, entriesRoles}
+use Rattle.seek.specs.Search.{metBy, metAt, FoundIn, Asked, TriedAt}
 use Rattle.seek.proofs.ByPlace.{Made, place-meets, found-meets}
 
 module _ (by-sum by-set : List ℕ) where

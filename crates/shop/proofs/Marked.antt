@@ -20,8 +20,7 @@ use Rattle.decision.specs.Groups.{sumOf, lengthRefused, someUnknown, standsBefo
 use Rattle.decision.specs.Groups.{someWeightless, membersRefusal}
 use Rattle.decision.specs.Decision.{groupDecision, decisionOf}
 use Rattle.related.specs.Related.{related, fits, bothFit, someValueFits, meetable, compatible, meetsSome}
-use Rattle.conflicts.proofs.Tables.{whole-contexts}
-use Rattle.related.proofs.Relating.{related-pairs}
+use Rattle.related.proofs.Relating.{related-pairs, whole-contexts}
 use Rattle.shop.specs.Shop.{shop, withParameter, upTo600, from600, before600, before0, edges}
 use Rattle.shop.specs.Marked.{Marked}
 

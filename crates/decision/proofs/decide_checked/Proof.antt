@@ -1,7 +1,7 @@
 -- `decide_checked` meets its contract. A `Run` is what a run knows at a place of the code. Each place has one, made of
 -- that of the place before it, and only there `.before`s are counted. The needs below go by the `Run`s of their places.
 use Prim.Native.Nat.{ℕ, _<_, _≤_}
-use mathlib.Core.Bool.{Bool, false, cond}
+use mathlib.Core.Bool.{Bool, cond}
 use mathlib.Core.List.{List}
 use mathlib.Core.Path.{_≡_, sym, _∙_}
 use native.Mathlib.Nat.{lt-of-lt-of-le}

@@ -1,10 +1,9 @@
 use borrow.Author.Needs.{needs}
-use Prim.Native.Nat.{ℕ, suc, _+_, _-_, _*_, _≤_, _<_}
-use mathlib.Core.Path.{_≡_, refl, sym, ap, _∙_}
-use mathlib.Core.List.{List}
+use Prim.Native.Nat.{ℕ, _-_, _≤_, _<_}
+use mathlib.Core.Path.{_≡_}
 use native.Mathlib.Omega.{arith}
 use mathlib.Core.Bool.{Bool, false}
-use Rattle.seek.specs.Search.{metBy, metAt, FoundIn}
+use Rattle.seek.specs.Search.{metBy, metAt}
 use Rattle.seek.proofs.Eights.{none-past, found-past, found-within, fewer}
 use Rattle.seek.proofs.meeting.Statement.{statement}
 use Rattle.seek.proofs.meeting.Tie as tie

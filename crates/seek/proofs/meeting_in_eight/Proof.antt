@@ -1,10 +1,5 @@
 use borrow.Author.Needs.{needs}
-use Prim.Native.Nat.{ℕ, suc, _+_, _-_, _*_, _≤_, _<_}
-use mathlib.Core.Path.{_≡_, refl, sym, ap, _∙_}
-use mathlib.Core.List.{List}
 use native.Mathlib.Omega.{arith}
-use lib.ListN.{length, getD}
-use Rattle.seek.specs.Search.{Tables}
 use Rattle.seek.proofs.Eights.{eight-missed}
 use Rattle.seek.proofs.meeting_in_eight.Statement.{statement}
 use Rattle.seek.proofs.meeting_in_eight.Tie as tie

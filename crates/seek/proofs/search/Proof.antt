@@ -1,13 +1,13 @@
 use borrow.Author.Needs.{needs}
 use Prim.Native.Nat.{ℕ, suc, _+_, _-_, _*_, _≤_, _<_}
-use mathlib.Core.Path.{_≡_, refl, sym, ap, _∙_}
+use mathlib.Core.Path.{_≡_, refl, _∙_}
 use mathlib.Core.List.{List}
 use native.Mathlib.Omega.{arith}
 use lib.ListN.{length, getD}
 use mathlib.Core.List.{[], _++_}
 use mathlib.Core.Bool.{Bool}
 use mathlib.Core.Logic.{⊎-elim}
-use native.Mathlib.Nat.{lt-of-not-le, eq-or-lt-of-le, le-of-suc-le-suc}
+use native.Mathlib.Nat.{eq-or-lt-of-le, le-of-suc-le-suc}
 use native.Mathlib.Numerals.{add-one}
 use borrow.Author.Tests.{leb-true, leb-false}
 use lib.Dec.{leb}
@@ -19,7 +19,7 @@ use Rattle.multisets.specs.Standing.{bytesBack}
 use Rattle.multisets.specs.Ends.{NextEnds, WayIn, backOf}
 use Rattle.multisets.specs.Values.{Held, sumAt}
 use Rattle.multisets.specs.Levels.{Levels}
-use Rattle.seek.specs.Search.{byMasks, metBy, Meets, FoundBack, TriedAt, Sought, Answered}
+use Rattle.seek.specs.Search.{byMasks, metBy, Meets, FoundBack, TriedAt, Answered}
 use Rattle.multisets.proofs.Places.{first-0, first-all}
 use Rattle.seek.proofs.search.Statement.{statement}
 use Rattle.seek.proofs.search.Tie as tie

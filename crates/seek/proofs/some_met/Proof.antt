@@ -1,9 +1,8 @@
 use borrow.Author.Needs.{needs}
-use Prim.Native.Nat.{ℕ, suc, _+_, _-_, _*_, _≤_, _<_}
-use mathlib.Core.Path.{_≡_, refl, sym, ap, _∙_}
-use mathlib.Core.List.{List}
+use Prim.Native.Nat.{ℕ, _+_, _-_, _≤_, _<_}
+use mathlib.Core.Path.{_≡_}
 use native.Mathlib.Omega.{arith}
-use lib.ListN.{length, getD}
+use lib.ListN.{getD}
 use Rattle.seek.specs.Search.{SomeMet}
 use Rattle.seek.proofs.Eights.{some-none, some-more}
 use mir.Val.{Fits}

@@ -1,11 +1,9 @@
-use borrow.Author.Needs.{needs}
-use Prim.Native.Nat.{ℕ, suc, _+_, _-_, _*_, _≤_, _<_}
-use mathlib.Core.Path.{_≡_, refl, sym, ap, _∙_}
+use Prim.Native.Nat.{ℕ, suc, _+_, _*_, _≤_}
+use mathlib.Core.Path.{_≡_}
 use mathlib.Core.Bool.{Bool}
 use mathlib.Core.List.{List}
 use native.Mathlib.Omega.{arith}
-use lib.ListN.{length, getD}
-use native.Mathlib.Nat.{lt-of-lt-of-le, le-refl}
+use native.Mathlib.Nat.{le-refl}
 use Rattle.multisets.specs.Ranks.{starts, first}
 use Rattle.multisets.specs.Ends.{NextEnds}
 use Rattle.multisets.specs.Values.{Held, sumAt}

@@ -13,7 +13,8 @@ use Rattle.reader.proofs.Accepted.{accepted, accepted-frame}
 use Rattle.weights.proofs.Weigh.{policies-fine}
 use Rattle.related.specs.Slots.{named, Relations}
 use Rattle.conflicts.specs.Rows.{contradictBy, Rows, Contradictions}
-use Rattle.conflicts.proofs.Tables.{whole-contexts, few-policies}
+use Rattle.related.proofs.Relating.{whole-contexts}
+use Rattle.conflicts.proofs.Tables.{few-policies}
 use Rattle.conflicts.proofs.Bits.{FirstRows, no-rows, next-row, all-rows}
 use Rattle.conflicts.proofs.Found.{contradictions-found}
 use Rattle.conflicts.proofs.rows.contradictions.Statement.{statement}

@@ -1,5 +1,5 @@
 -- `overlap_by` meets its contract: the sets of covered roles are tested first, then the permissions.
-use Prim.Native.Nat.{ℕ, _/_, _<_, _≤_}
+use Prim.Native.Nat.{ℕ, _/_, _<_}
 use mathlib.Core.Bool.{Bool, false, and-true, and-false}
 use mathlib.Core.List.{List}
 use mathlib.Core.Path.{_≡_, sym}

@@ -1,7 +1,6 @@
 -- `strike_clause` meets its contract: each turn strikes the clause out by one condition more.
 use Prim.Native.Nat.{_+_, _-_, _*_, _≤_}
 use native.Mathlib.Omega.{arith}
-use lib.ListN.{length}
 use Rattle.reader.specs.Tables.{clauses}
 use Rattle.reader.specs.Fields.{clauseLength}
 use Rattle.reader.proofs.Accepted.{record-within}

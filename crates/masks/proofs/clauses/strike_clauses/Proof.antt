@@ -2,7 +2,6 @@
 use mathlib.Core.Path.{refl, sym, _∙_}
 use native.Mathlib.Nat.{pos-of-ne-zero}
 use Rattle.masks.proofs.Narrowing.{Turn, in-table, next}
-use borrow.Author.Needs.{needs}
 use Rattle.masks.proofs.clauses.strike_clauses.Statement.{statement}
 use Rattle.masks.proofs.clauses.strike_clauses.Tie as tie
 

@@ -3,7 +3,6 @@ use Prim.Native.Nat.{_+_, _-_, _≤_}
 use mathlib.Core.Path.{_≡_, sym, _∙_}
 use mathlib.Core.Logic.{⊎-elim}
 use native.Mathlib.Omega.{arith}
-use lib.ListN.{length}
 use Rattle.masks.specs.Clauses.{Struck}
 use Rattle.masks.proofs.Striking.{lacksBelow, struck-roles-none, struck-role, struck-other, struck-roles}
 use borrow.Author.Needs.{needs}

@@ -1,6 +1,5 @@
 -- `rows_for` meets its contract: each turn makes one row more.
-use Prim.Native.Nat.{_+_, _-_, _*_, _≤_}
-use mathlib.Core.Path.{_≡_}
+use Prim.Native.Nat.{_-_, _≤_}
 use native.Mathlib.Omega.{arith}
 use lib.ListN.{length}
 use Rattle.masks.proofs.RowMasks.{RowsTo, Within, rows-none, rows-next, rows-all, sums-within}

@@ -1,15 +1,15 @@
 use borrow.Author.Needs.{needs}
 use Prim.Native.Nat.{ℕ, suc, _+_, _-_, _*_, _≤_, _<_}
-use mathlib.Core.Path.{_≡_, refl, sym, ap, _∙_}
+use mathlib.Core.Path.{_≡_, refl, _∙_}
 use mathlib.Core.List.{List}
 use native.Mathlib.Omega.{arith}
 use lib.ListN.{length, getD}
 use mir.Val.{Fits}
 use mir.Syntax.{w8}
 use native.Mathlib.Nat.{le-refl, zero-add}
-use Rattle.multisets.specs.Ranks.{starts, first, more}
-use Rattle.multisets.specs.Ends.{NextTable, Grows, Filled, Relaxed}
-use Rattle.multisets.specs.Levels.{Ups, Pushing}
+use Rattle.multisets.specs.Ranks.{first, more}
+use Rattle.multisets.specs.Ends.{Grows, Filled, Relaxed}
+use Rattle.multisets.specs.Levels.{Pushing}
 use Rattle.multisets.proofs.Places.{first-five, first-all, place-lt, first-le}
 use Rattle.multisets.proofs.Filling.{filled-skip, filled-more, filled-past, end-stays, lengths-stay, at-within}
 use Rattle.multisets.proofs.ends.push.Statement.{statement}
@@ -30,13 +30,6 @@ module _ {d : ℕ} {nexts up : List ℕ} {i next : ℕ} {ends from : List ℕ} (
       let is = p .place in
       let few = p .few in
       omega (arith, place-lt d (p .n) (p .m) (p .some), first-le d (suc (p .n)) 6 (omega arith), first-five d (p .most))
-
-  next-few : next ≤ 3003
-  next-few =
-      let is = p .ahead in
-      let few = p .few in
-      let l = place-lt d (p .n) (p .m) (p .some) in
-      omega (arith, first-le d (suc (p .n)) 6 (omega arith), first-five d (p .most))
 
   place-there : i < length ends
   place-there =
@@ -80,15 +73,6 @@ module _ {d : ℕ} {nexts up : List ℕ} {i next : ℕ} {ends₀ from₀ : List 
 
   target-lt : next + getD up q 0 < first d 7
   target-lt = at-within (p .most) (turn .filled) (p .table) grows small there is-next
-
-  end-few : end ≤ 24
-  end-few = rw (turn .stays) at (turn .filled .within i within (rw (turn .stays) reached))
-    where
-      within : i < first d 7
-      within =
-          let is = p .place in
-          let few = p .few in
-          omega (arith, place-lt d (p .n) (p .m) (p .some), first-le d (suc (p .n)) 7 (omega arith))
 
   turn-more : {ends' from' : List ℕ} →
       Relaxed ends from (next + getD up q 0) (getD nexts (8 * end + q) 0) (8 * i + q) ends' from' →

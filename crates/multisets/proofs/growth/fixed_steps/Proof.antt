@@ -1,13 +1,11 @@
 use borrow.Author.Needs.{needs}
-use Prim.Native.Nat.{ℕ, suc, _+_, _-_, _*_, _≤_, _<_}
-use mathlib.Core.Path.{_≡_, refl, sym, ap, _∙_}
+use Prim.Native.Nat.{ℕ, suc, _+_, _-_, _≤_, _<_}
+use mathlib.Core.Path.{_≡_, refl, ap, _∙_}
 use mathlib.Core.List.{List}
 use native.Mathlib.Omega.{arith}
 use lib.ListN.{length, getD, set, length-set}
-use native.Mathlib.Nat.{le-trans}
 use Rattle.folds.proofs.Lists.{stored}
 use Rattle.multisets.specs.Ranks.{starts}
-use Rattle.multisets.specs.Levels.{Fixed}
 use Rattle.multisets.proofs.Rows.{starts-more}
 use Rattle.multisets.proofs.growth.fixed_steps.Statement.{statement}
 use Rattle.multisets.proofs.growth.fixed_steps.Tie as tie

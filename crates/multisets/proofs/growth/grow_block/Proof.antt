@@ -1,6 +1,6 @@
 use borrow.Author.Needs.{needs}
 use Prim.Native.Nat.{ℕ, suc, _+_, _-_, _*_, _≤_, _<_}
-use mathlib.Core.Path.{_≡_, refl, sym, ap, _∙_}
+use mathlib.Core.Path.{_≡_, refl, ap, _∙_}
 use mathlib.Core.List.{List}
 use mathlib.Core.Logic.{⊎-elim}
 use borrow.Author.Tests.{leb-true, leb-false}
@@ -9,12 +9,12 @@ use Rattle.folds.proofs.Bools.{met-or-not}
 use native.Mathlib.Omega.{arith}
 use lib.ListN.{length, getD}
 use native.Mathlib.Nat.{lt-of-lt-of-le}
-use Rattle.multisets.specs.Ranks.{starts, first, Starts}
+use Rattle.multisets.specs.Ranks.{starts, first}
 use Rattle.multisets.specs.Values.{Written}
-use Rattle.multisets.specs.Ends.{NextTable, Filled}
+use Rattle.multisets.specs.Ends.{NextTable}
 use Rattle.multisets.specs.Levels.{Ups, Rows, Fixed, Kept, Grown, Pushing}
 use Rattle.multisets.proofs.Blocks.{block, starts-le}
-use Rattle.multisets.proofs.Places.{first-more, first-le, place-lt}
+use Rattle.multisets.proofs.Places.{first-le, place-lt}
 use Rattle.multisets.proofs.Rows.{step-most, row-made, rows-more, rows-past, row-room}
 use Rattle.multisets.proofs.growth.grow_block.Statement.{statement}
 use Rattle.multisets.proofs.growth.grow_block.Tie as tie

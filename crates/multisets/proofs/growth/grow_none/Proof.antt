@@ -1,6 +1,6 @@
 use borrow.Author.Needs.{needs}
-use Prim.Native.Nat.{ℕ, suc, _+_, _-_, _*_, _≤_, _<_}
-use mathlib.Core.Path.{_≡_, refl, sym, ap, _∙_}
+use Prim.Native.Nat.{ℕ, _≤_, _<_}
+use mathlib.Core.Path.{_≡_, refl, sym, _∙_}
 use mathlib.Core.List.{List, [], _∷_}
 use native.Mathlib.Omega.{arith}
 use lib.ListN.{length, getD}
@@ -12,7 +12,7 @@ use Rattle.folds.proofs.Tests.{all-at}
 use Rattle.multisets.specs.Ranks.{starts, first}
 use Rattle.multisets.specs.Values.{Written}
 use Rattle.multisets.specs.Ends.{NextTable, Filled}
-use Rattle.multisets.specs.Levels.{Ups, Rows, Grown, Pushing}
+use Rattle.multisets.specs.Levels.{Ups, Grown, Pushing}
 use Rattle.multisets.proofs.Blocks.{starts-empty}
 use Rattle.multisets.proofs.Places.{first-0, first-1, first-le}
 use Rattle.multisets.proofs.Rows.{row-none, rows-more}

@@ -1,11 +1,10 @@
 use borrow.Author.Needs.{needs}
-use Prim.Native.Nat.{ℕ, suc, _+_, _-_, _*_, _≤_, _<_}
-use mathlib.Core.Path.{_≡_, refl, sym, ap, _∙_}
+use Prim.Native.Nat.{ℕ, _+_, _-_, _≤_, _<_}
+use mathlib.Core.Path.{_≡_, refl, _∙_}
 use mathlib.Core.List.{List}
 use native.Mathlib.Omega.{arith}
 use lib.ListN.{length, getD, set, length-set}
 use Rattle.folds.proofs.Lists.{stored}
-use Rattle.multisets.specs.Levels.{Kept}
 use Rattle.multisets.proofs.growth.kept_steps.Statement.{statement}
 use Rattle.multisets.proofs.growth.kept_steps.Tie as tie
 

@@ -1,12 +1,12 @@
 use borrow.Author.Needs.{needs}
-use Prim.Native.Nat.{ℕ, suc, _+_, _-_, _*_, _≤_, _<_}
-use mathlib.Core.Path.{_≡_, refl, sym, ap, _∙_}
+use Prim.Native.Nat.{ℕ, _<_}
+use mathlib.Core.Path.{sym}
 use mathlib.Core.List.{List}
 use native.Mathlib.Omega.{arith}
-use lib.ListN.{length, getD, set}
+use lib.ListN.{set}
 use native.Mathlib.Nat.{le-refl}
 use Rattle.multisets.specs.Ranks.{first}
-use Rattle.multisets.specs.Levels.{Rows, Grown, Levels, Blank}
+use Rattle.multisets.specs.Levels.{Levels, Blank}
 use Rattle.multisets.proofs.Places.{first-0, first-1, first-le}
 use Rattle.multisets.proofs.Filling.{filled-none}
 use Rattle.multisets.proofs.Holding.{held-none}

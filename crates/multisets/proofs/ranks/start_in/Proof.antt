@@ -1,5 +1,4 @@
 use borrow.Author.Needs.{needs}
-use Prim.Native.Nat.{_≤_}
 use Rattle.multisets.proofs.ranks.start_in.Statement.{statement}
 use Rattle.multisets.proofs.ranks.start_in.Tie as tie
 

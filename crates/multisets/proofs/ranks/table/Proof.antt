@@ -9,7 +9,7 @@ use borrow.Author.Tests.{eqb-true, leb-true}
 use Rattle.folds.specs.Below.{allBelow, sumBelow}
 use Rattle.folds.proofs.Bools.{and-left, and-right}
 use Rattle.folds.proofs.Tests.{all-at}
-use Rattle.multisets.specs.Ranks.{starts, Starts}
+use Rattle.multisets.specs.Ranks.{starts}
 use Rattle.multisets.proofs.ranks.table.Statement.{statement}
 use Rattle.multisets.proofs.ranks.table.Tie as tie
 

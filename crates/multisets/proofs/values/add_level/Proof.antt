@@ -1,14 +1,14 @@
 use borrow.Author.Needs.{needs}
 use Prim.Native.Nat.{ℕ, suc, _+_, _-_, _*_, _≤_, _<_}
-use mathlib.Core.Path.{_≡_, refl, sym, ap, _∙_}
+use mathlib.Core.Path.{_≡_, refl, _∙_}
 use mathlib.Core.List.{List}
 use native.Mathlib.Omega.{arith}
 use lib.ListN.{length, getD}
-use native.Mathlib.Nat.{lt-of-lt-of-le, le-refl}
-use Rattle.multisets.specs.Ranks.{starts, first, total, Starts}
-use Rattle.multisets.specs.Values.{Held, Light, sumAt, setAt, Written}
-use Rattle.multisets.proofs.Blocks.{starts-le, starts-none, total-block, total-le}
-use Rattle.multisets.proofs.Places.{first-0, first-1, first-more, first-le, first-all}
+use native.Mathlib.Nat.{lt-of-lt-of-le}
+use Rattle.multisets.specs.Ranks.{starts, first}
+use Rattle.multisets.specs.Values.{Held, Light, sumAt, Written}
+use Rattle.multisets.proofs.Blocks.{starts-le, total-block, total-le}
+use Rattle.multisets.proofs.Places.{first-all}
 use Rattle.multisets.proofs.Holding.{block-reads, block-place, block-room, block-apart, block-written}
 use Rattle.multisets.proofs.Holding.{level-start, level-end}
 use Rattle.multisets.proofs.values.add_level.Statement.{statement}

@@ -1,15 +1,14 @@
 use borrow.Author.Needs.{needs}
-use Prim.Native.Nat.{ℕ, suc, _+_, _-_, _*_, _^_, _≤_, _<_}
+use Prim.Native.Nat.{ℕ, suc, _+_, _-_, _^_, _≤_, _<_}
 use mathlib.Core.Path.{_≡_, refl, sym, ap, _∙_}
 use mathlib.Core.List.{List}
 use native.Mathlib.Omega.{arith}
 use lib.Bits.{bitOr}
 use lib.ListN.{length, getD}
-use native.Mathlib.Nat.{lt-of-lt-of-le, le-refl}
+use native.Mathlib.Nat.{le-refl}
 use Rattle.multisets.specs.Ranks.{starts, first}
 use Rattle.multisets.specs.Values.{Held, setAt, Written}
-use Rattle.multisets.proofs.Blocks.{starts-le}
-use Rattle.multisets.proofs.Places.{first-0, first-1, first-more, first-le, first-all}
+use Rattle.multisets.proofs.Places.{first-all}
 use Rattle.multisets.proofs.Sets.{set-block}
 use Rattle.multisets.proofs.Holding.{block-reads, block-place, block-room, block-apart, block-written}
 use Rattle.multisets.proofs.Holding.{level-start, level-end}

@@ -1,11 +1,11 @@
 use borrow.Author.Needs.{needs}
-use Prim.Native.Nat.{ℕ, suc, _+_, _-_, _*_, _≤_, _<_}
-use mathlib.Core.Path.{_≡_, refl, sym, ap, _∙_}
+use Prim.Native.Nat.{ℕ, suc, _+_, _-_, _≤_, _<_}
+use mathlib.Core.Path.{_≡_, sym, ap, _∙_}
 use mathlib.Core.List.{List}
 use native.Mathlib.Omega.{arith}
 use lib.ListN.{length, getD, set}
 use native.Mathlib.Nat.{pos-of-ne-zero, add-zero}
-use Rattle.multisets.specs.Ranks.{starts, first, total}
+use Rattle.multisets.specs.Ranks.{starts, first}
 use Rattle.multisets.specs.Values.{Held, sumAt}
 use Rattle.multisets.proofs.Blocks.{starts-empty, total-none}
 use Rattle.multisets.proofs.Places.{first-0, first-1, first-le}

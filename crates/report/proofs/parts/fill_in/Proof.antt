@@ -1,15 +1,15 @@
 use borrow.Author.Needs.{needs}
-use Prim.Native.Nat.{ℕ, suc, _+_, _-_, _*_, _/_, _^_, _≤_, _<_}
-use mathlib.Core.Path.{_≡_, refl, sym, ap, _∙_}
+use Prim.Native.Nat.{ℕ, _/_, _^_, _≤_}
+use mathlib.Core.Path.{_≡_, refl, _∙_}
 use mathlib.Core.List.{List}
 use native.Mathlib.Omega.{arith}
-use lib.ListN.{length, getD, replicate, List·getD-eq-default}
+use lib.ListN.{length, getD, List·getD-eq-default}
 use mathlib.Core.Bool.{false, cond}
 use mathlib.Core.Logic.{⊎-elim}
 use borrow.Author.Tests.{ltb-true, ltb-false}
 use lib.Dec.{ltb}
 use Rattle.folds.specs.Sets.{setBelow}
-use Rattle.folds.proofs.Bools.{met-or-not, clash}
+use Rattle.folds.proofs.Bools.{met-or-not}
 use Rattle.folds.proofs.Numbers.{sum-zero}
 use Rattle.reader.specs.Tables.{users, roleCount, tableOf, recordCount}
 use Rattle.reader.specs.Rules.{refusalOf}
@@ -18,7 +18,6 @@ use Rattle.reader.proofs.Accepted.{accepted-frame}
 use Rattle.weights.specs.Acting.{mayAct}
 use Rattle.weights.proofs.Known.{acting-known}
 use Rattle.masks.specs.Sets.{RoleCounts}
-use Rattle.multisets.specs.Ranks.{first}
 use Rattle.multisets.specs.Levels.{Levels, Blank}
 use Rattle.report.specs.Parts.{ActingSets}
 use Rattle.report.proofs.Least.{users-le}

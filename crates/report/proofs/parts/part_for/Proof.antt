@@ -1,21 +1,20 @@
 use borrow.Author.Needs.{needs}
-use Prim.Native.Nat.{ℕ, suc, _+_, _-_, _*_, _≤_, _<_}
+use Prim.Native.Nat.{ℕ, _-_, _*_, _≤_}
 use mathlib.Core.Bool.{Bool}
-use mathlib.Core.Path.{_≡_, refl, sym, ap, _∙_}
-use mathlib.Core.List.{List, _∷_, _++_}
+use mathlib.Core.Path.{_≡_, sym, ap, _∙_}
+use mathlib.Core.List.{List}
 use native.Mathlib.Omega.{arith}
-use lib.ListN.{length, getD, replicate, length-append, length-replicate}
+use lib.ListN.{length, replicate, length-append, length-replicate}
 use native.Mathlib.Nat.{lt-of-lt-of-le}
 use Rattle.reader.specs.Tables.{clauses, roleCount, tableOf}
 use Rattle.reader.proofs.Frame.{framed, permissions-le}
 use Rattle.reader.proofs.Accepted.{accepted-frame}
 use Rattle.weights.specs.Setting.{AreWeights}
-use Rattle.seek.specs.Search.{Answered, groupBytes}
+use Rattle.seek.specs.Search.{Answered}
 use Rattle.multisets.specs.Rising.{bytesOf}
 use Rattle.multisets.specs.Ranks.{first}
 use Rattle.multisets.specs.Levels.{Levels}
 use Rattle.report.specs.Search.{holdsWith, Seeking}
-use Rattle.report.specs.Parts.{PartFor}
 use Rattle.report.proofs.Shown.{nobody}
 use Rattle.report.proofs.Turned.{bytes-length}
 use Rattle.report.proofs.Part.{seeking, part-none, part-found}

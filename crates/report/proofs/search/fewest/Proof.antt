@@ -1,11 +1,7 @@
 use borrow.Author.Needs.{needs}
-use Prim.Native.Nat.{ℕ, suc, _+_, _-_, _*_, _≤_, _<_}
-use mathlib.Core.Path.{_≡_, refl, sym, ap, _∙_}
-use mathlib.Core.List.{List}
+use mathlib.Core.Path.{_≡_, refl, sym, _∙_}
 use native.Mathlib.Omega.{arith}
-use lib.ListN.{length, getD, replicate}
 use Rattle.masks.specs.Clauses.{clausesOf}
-use Rattle.report.specs.Search.{WeighedBelow, Seeking}
 use Rattle.report.proofs.Fewest.{fewest-is}
 use Rattle.report.proofs.Seek.{sum-few, masks-ready, search-ready, telling, last-sum, no-clause, no-weight}
 use Rattle.report.proofs.search.fewest.Statement.{statement}

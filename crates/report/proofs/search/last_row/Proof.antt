@@ -1,13 +1,12 @@
 use borrow.Author.Needs.{needs}
-use Prim.Native.Nat.{ℕ, suc, _+_, _-_, _*_, _≤_, _<_}
-use mathlib.Core.Path.{_≡_, refl, sym, ap, _∙_}
+use Prim.Native.Nat.{ℕ, _+_, _-_, _≤_, _<_}
+use mathlib.Core.Path.{_≡_}
 use mathlib.Core.List.{List}
 use native.Mathlib.Omega.{arith}
-use lib.ListN.{length, getD}
+use lib.ListN.{getD}
 use mathlib.Core.Logic.{inl, inr, ⊎-elim}
 use native.Mathlib.Nat.{eq-or-lt-of-le, le-of-suc-le-suc}
 use native.Mathlib.Numerals.{add-one}
-use Rattle.report.specs.Search.{LastRow}
 use Rattle.report.proofs.search.last_row.Statement.{statement}
 use Rattle.report.proofs.search.last_row.Tie as tie
 
