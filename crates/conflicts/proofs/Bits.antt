@@ -1,13 +1,13 @@
 -- Laws of rows of bits: a member added, rows without any, a row made bit by bit, and the rows made one by one.
 use Prim.Native.Nat.{ℕ, zero, suc, _+_, _^_, _≤_, _<_}
 use mathlib.Core.Bool.{Bool, true, false, _&&_, _||_, cond, or-false}
-use mathlib.Core.Path.{_≡_, refl, sym, _∙_}
+use mathlib.Core.Path.{_≡_, refl, sym}
 use mathlib.Core.Logic.{⊎-elim}
 use mathlib.Core.List.{List}
 use native.Mathlib.Nat.{le-refl, not-suc-le-zero}
 use native.Mathlib.Omega.{arith}
 use borrow.Author.Tests.{eqb-true, eqb-false}
-use lib.Bits.{bitOr, or-zero-r}
+use lib.Bits.{bitOr}
 use lib.Dec.{ltb, eqb}
 use lib.ListN.{length, getD, set, replicate, length-set}
 use lib.Seq.{getD-set-same, getD-set-other}
@@ -15,7 +15,8 @@ use Rattle.folds.specs.Sets.{inSet, setBelow}
 use Rattle.folds.proofs.Bools.{met-or-not}
 use Rattle.folds.proofs.Numbers.{sum-zero}
 use Rattle.folds.proofs.Lists.{stored}
-use Rattle.folds.proofs.Sets.{in-none, in-added, in-below, set-or}
+use Rattle.folds.proofs.Sets.{in-none, in-added}
+use Rattle.folds.proofs.Gathers.{Gathered, one-added, one-passed, gathered-below}
 use Rattle.conflicts.specs.Rows.{Rows}
 
 -- sets of which all are 0 are empty
@@ -47,36 +48,24 @@ set-empty p n h = sum-zero (λ r. cond (p r) (2 ^ r) 0) n (λ i l. rw (h i l))
 -- a row that has its bits below j, of m; those below `from` are never set
 pub record FirstBits (from m : ℕ) (p : ℕ → Bool) (row j : ℕ) : Type 0 where
   pub low : from ≤ j
-  pub within : j ≤ m
-  pub is : row ≡ setBelow j p
+  pub bits : Gathered m p j row
 
 pub no-bits : (from m : ℕ) (p : ℕ → Bool) → from ≤ m → ((k : ℕ) → k < from → p k ≡ false) → FirstBits from m p 0 from
-no-bits from m p l none = record { low = le-refl from; within = l; is = sym (set-empty p from none) }
+no-bits from m p l none =
+    record { low = le-refl from; bits = record { within = l; is = sym (set-empty p from none) } }
 
 -- one bit further: p holds of j, or not
-module _ {from m : ℕ} {p : ℕ → Bool} {row j : ℕ} (bits : FirstBits from m p row j) (inside : j < m) where
-  further : {now : ℕ} → now ≡ setBelow (j + 1) p → FirstBits from m p now (j + 1)
-  further e = let l = bits .low in record { low = omega arith; within = omega arith; is = e }
-
+module _ {from m : ℕ} {p : ℕ → Bool} {row j : ℕ} (first : FirstBits from m p row j) (inside : j < m) where
   pub bit-set : {bit now : ℕ} → p j ≡ true → bit ≡ 2 ^ j → now ≡ bitOr row bit → FirstBits from m p now (j + 1)
-  bit-set {bit} h b e = further (e ∙ more (bits .is))
-    where
-      more : row ≡ setBelow j p → bitOr row bit ≡ setBelow (j + 1) p
-      more is = rw (set-or p j, h, is, b)
+  bit-set h b e = record { low = omega (arith, first .low); bits = one-added (first .bits) inside refl h b e }
 
   pub bit-clear : {now : ℕ} → p j ≡ false → now ≡ row → FirstBits from m p now (j + 1)
-  bit-clear h e = further (e ∙ same (bits .is))
-    where
-      same : row ≡ setBelow j p → row ≡ setBelow (j + 1) p
-      same is = rw (set-or p j, h, or-zero-r) is
+  bit-clear h e = record { low = omega (arith, first .low); bits = one-passed (first .bits) inside refl h e }
 
 -- all bits
 pub all-bits : {from m : ℕ} {p : ℕ → Bool} {row j : ℕ} → FirstBits from m p row j → m ≤ j →
     (k : ℕ) → inSet row k ≡ (ltb k m && p k)
-all-bits {m = m} {p = p} {j = j} bits end k =
-    let w = bits .within in
-    let e : j ≡ m = omega arith in
-    rw (bits .is, e) (in-below p m k)
+all-bits first = gathered-below (first .bits)
 
 -- the first i of n rows, in 64 places
 pub record FirstRows (n m : ℕ) (p : ℕ → ℕ → Bool) (rows : List ℕ) (i : ℕ) : Type 0 where

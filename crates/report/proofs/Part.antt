@@ -7,7 +7,7 @@ use mathlib.Core.List.{List, _∷_}
 use native.Mathlib.Omega.{arith}
 use native.Mathlib.Nat.{lt-of-lt-of-le}
 use borrow.Author.Tests.{eqb-true, eq-eqb, ltb-true, ltb-false, lt-ltb, le-ltb}
-use lib.Dec.{ltb, eqb, lit<}
+use lib.Dec.{ltb, eqb}
 use lib.Pow.{pow-pos}
 use lib.ListN.{length, getD, replicate, List·getD-eq-default}
 use Rattle.folds.specs.Sets.{inSet}
@@ -15,8 +15,8 @@ use Rattle.folds.proofs.Bools.{met-or-not}
 use Rattle.folds.proofs.Sets.{in-set, in-none}
 use Rattle.reader.specs.Tables.{users, clauses, roleCount, permissionCount, tableOf}
 use Rattle.reader.specs.Rules.{refusalOf}
-use Rattle.reader.proofs.Frame.{roles-range, table-length, size-le}
-use Rattle.reader.proofs.Accepted.{accepted, accepted-frame}
+use Rattle.reader.proofs.Frame.{roles-range}
+use Rattle.reader.proofs.Accepted.{accepted-frame}
 use Rattle.weights.specs.declared.Context.{Context}
 use Rattle.weights.specs.Contexts.{outOfRange}
 use Rattle.weights.specs.Weights.{weight}
@@ -31,6 +31,7 @@ use Rattle.decision.proofs.Granting.{granted-by}
 use Rattle.report.specs.Smallest.{smallestOf}
 use Rattle.seek.specs.Search.{Answered}
 use Rattle.masks.specs.Sets.{RoleCounts}
+use Rattle.masks.proofs.Made.{checked}
 use Rattle.report.specs.Search.{holdsWith, Seeking}
 use Rattle.report.specs.Parts.{ActingSets, PartFor}
 use Rattle.report.proofs.Bridge.{Tables}
@@ -44,10 +45,6 @@ with-both true false true h = sym (h refl .1)
 with-both true false false h = refl
 with-both false b true h = sym (h refl .0)
 with-both false b false h = refl
-
--- the table K of an accepted base has at most 1,024 bytes
-pub clauses-short : (b : List ℕ) → refusalOf b ≡ 0 → length (tableOf b clauses) ≤ 1024
-clauses-short b ok = rw (table-length b (accepted-frame b ok) 3 (lit< tt)) (size-le b (accepted-frame b ok) 3 (lit< tt))
 
 module _ (b : List ℕ) (at : Context) (p : ℕ) (ok : refusalOf b ≡ 0) where
   -- the sets of a base say who may act in which role
@@ -81,13 +78,7 @@ module _ (b : List ℕ) (at : Context) (p : ℕ) (ok : refusalOf b ≡ 0) where
   pub seeking : (w counts : List ℕ) → AreWeights b at p w → RoleCounts (2 ^ roleCount b) counts →
       Seeking (tableOf b clauses) w nobody (roleCount b) counts
   seeking w counts are counted = record {
-    checked = record {
-      roles = roleCount b;
-      permissions = permissionCount b;
-      roles-le = roles-range b (accepted-frame b ok) .1;
-      short = clauses-short b ok;
-      fine = accepted b ok .clauses;
-    };
+    checked = checked b ok;
     light = record { most = weights-le b ok at p w are };
     most = roles-range b (accepted-frame b ok) .1;
     roles = λ r low heavy. ⊎-elim

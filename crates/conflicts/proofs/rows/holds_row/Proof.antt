@@ -1,18 +1,18 @@
 -- `holds_row` meets its contract: each turn sets the bit of the next exclusion, or leaves it.
 use Prim.Native.Nat.{_-_, _/_}
 use mathlib.Core.Logic.{inl, inr}
-use mathlib.Core.Path.{sym, _∙_}
+use mathlib.Core.Path.{sym}
 use native.Mathlib.Omega.{arith}
 use borrow.Author.Needs.{needs}
 use lib.ListN.{length}
 use Rattle.folds.proofs.Sets.{set-none}
+use Rattle.folds.proofs.Gathers.{Gathered, one-added, one-passed, gathered-below}
 use Rattle.conflicts.specs.Conflicts.{holdsBoth}
-use Rattle.conflicts.proofs.Bits.{FirstBits, bit-set, bit-clear, all-bits}
 use Rattle.conflicts.proofs.rows.holds_row.Statement.{statement}
 use Rattle.conflicts.proofs.rows.holds_row.Tie as tie
 
 abbrev Inv-loop : tie.InvT-loop
-Inv-loop users roles x u row₀ e₀ e-end row e = FirstBits 0 (length x / 3) (holdsBoth roles users x u) row e
+Inv-loop users roles x u row₀ e₀ e-end row e = Gathered (length x / 3) (holdsBoth roles users x u) e row
 
 abbrev μ-loop : tie.MeasureT-loop
 μ-loop users roles x u row₀ e₀ e-end row e = length x / 3 - e
@@ -28,7 +28,7 @@ abbrev in-loop : tie.In-loop Inv-loop μ-loop → Start
 in-loop c = at-loop (c .before)
 
 loop-holds : tie.Need-loop-holds Inv-loop μ-loop
-loop-holds c = record { low = omega arith; within = omega arith; is = sym (set-none _) }
+loop-holds c = record { within = omega arith; is = sym (set-none _) }
 
 holds-both-requires : tie.Need-holds-both-requires Inv-loop μ-loop
 holds-both-requires c κs = (in-loop c .pre .0, omega (arith, c .loop-test .taken))
@@ -47,16 +47,16 @@ loop-less c = search needs
 loop-again : tie.Need-loop-again Inv-loop μ-loop
 loop-again c =
     let turn = c .before .before in
-    let bits = turn .before .loop .inv in
+    let yet = turn .before .loop .inv in
     let inside = turn .loop-test .taken in
-    let test = sym (c .before .holds-both .ensures) in
+    let test = c .before .holds-both .ensures in
     elim (c .if1 .came) [
-      | inl d ↦ bit-set bits inside (test ∙ d .0 .taken) (d .1 .ensures) (d .2)
-      | inr d ↦ bit-clear bits inside (test ∙ d .0 .left) (d .1)
+      | inl d ↦ one-added yet inside test (d .0 .taken) (d .1 .ensures) (d .2)
+      | inr d ↦ one-passed yet inside test (d .0 .left) (d .1)
     ]
 
 returns : tie.Need-returns Inv-loop μ-loop
-returns c = all-bits (c .before .loop .inv) (c .loop-test .left)
+returns c = gathered-below (c .before .loop .inv) (c .loop-test .left)
 
 pub holds-row-spec : {M : Type 1} → statement M
 holds-row-spec =

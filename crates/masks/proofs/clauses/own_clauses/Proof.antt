@@ -1,14 +1,14 @@
 -- `own_clauses` meets its contract: each turn adds a clause of the permission.
-use Prim.Native.Nat.{ℕ, _+_, _-_, _/_, _^_, _≤_, _<_}
-use mathlib.Core.Path.{_≡_, sym, _∙_}
+use Prim.Native.Nat.{ℕ, _-_, _/_, _^_, _<_}
+use mathlib.Core.Path.{_≡_, refl}
 use mathlib.Core.List.{List}
-use mathlib.Core.Logic.{⊎-elim}
+use mathlib.Core.Logic.{inl, inr}
 use borrow.Author.Tests.{eq-eqb, ne-eqb}
 use lib.Dec.{eqb}
 use lib.ListN.{length}
-use lib.Bits.{bitOr, or-zero-r}
 use Rattle.folds.specs.Sets.{setBelow}
-use Rattle.folds.proofs.Sets.{set-none, set-or, set-lt}
+use Rattle.folds.proofs.Sets.{set-lt}
+use Rattle.folds.proofs.Gathers.{Gathered, gathered-none, one-added, one-passed, gathered-set}
 use Rattle.reader.specs.Tables.{clauses, recordCount}
 use Rattle.reader.specs.Fields.{clausePermission}
 use Rattle.masks.specs.Clauses.{clausesOf}
@@ -19,13 +19,13 @@ use Rattle.masks.proofs.clauses.own_clauses.Tie as tie
 
 abbrev Inv-loop : tie.InvT-loop
 Inv-loop k permission own₀ i₀ i-end own i =
-    (i ≤ length k / 16) × (own ≡ setBelow i (λ i. eqb (clausePermission k i) permission))
+    Gathered (length k / 16) (λ i. eqb (clausePermission k i) permission) i own
 
 abbrev μ-loop : tie.MeasureT-loop
 μ-loop k permission own₀ i₀ i-end own i = length k / 16 - i
 
 loop-holds : tie.Need-loop-holds Inv-loop μ-loop
-loop-holds c = (search needs, sym (set-none _))
+loop-holds c = gathered-none
 
 mul-if1 : tie.Need-mul-if1 Inv-loop μ-loop
 mul-if1 c = search needs
@@ -42,16 +42,6 @@ add-i c = search needs
 loop-less : tie.Need-loop-less Inv-loop μ-loop
 loop-less c = search needs
 
--- one clause further, of plain values
-module _ (k : List ℕ) (p i own : ℕ) (inv : own ≡ setBelow i (λ i. eqb (clausePermission k i) p)) where
-  more : {bit now : ℕ} → clausePermission k i ≡ p → bit ≡ 2 ^ i → now ≡ bitOr own bit
-      → now ≡ setBelow (i + 1) (λ i. eqb (clausePermission k i) p)
-  more e b n = n ∙ rw (set-or (λ i. eqb (clausePermission k i) p) i, eq-eqb _ _ e, inv, b)
-
-  other : {now : ℕ} → (clausePermission k i ≡ p → ⊥) → now ≡ own
-      → now ≡ setBelow (i + 1) (λ i. eqb (clausePermission k i) p)
-  other d n = n ∙ rw (set-or (λ i. eqb (clausePermission k i) p) i, ne-eqb _ _ d, or-zero-r) inv
-
 all : (k : List ℕ) (p own : ℕ) → own ≡ setBelow (length k / 16) (λ i. eqb (clausePermission k i) p)
     → (own ≡ clausesOf k p) × (own < 2 ^ recordCount clauses k)
 unfolding clausesOf
@@ -59,20 +49,18 @@ all k p own e = (e, rw e (set-lt (λ i. eqb (clausePermission k i) p) (recordCou
 
 loop-again : tie.Need-loop-again Inv-loop μ-loop
 loop-again c =
-    let turn = c .before .before .before in
-    let l = turn .loop in
-    let a = turn .before .before .args in (
-      search needs,
-      ⊎-elim (λ d. more (a .k .now) (a .permission) (l .i) (l .own) (l .inv .1) (d .0 .taken) (d .1 .ensures) (d .2))
-          (λ d. other (a .k .now) (a .permission) (l .i) (l .own) (l .inv .1) (d .0 .left) (d .1)) (c .if1 .came),
-    )
+    let at = c .before .before in
+    let yet = at .before .loop .inv in
+    elim (c .if1 .came) [
+      | inl d ↦ one-added yet (at .loop-test .taken) refl (eq-eqb _ _ (d .0 .taken)) (d .1 .ensures) (d .2)
+      | inr d ↦ one-passed yet (at .loop-test .taken) refl (ne-eqb _ _ (d .0 .left)) (d .1)
+    ]
 
 returns : tie.Need-returns Inv-loop μ-loop
 returns c =
     let l = c .before .loop in
     let a = c .before .before .before .args in
-    let e : l .i ≡ length (a .k .now) / 16 = omega arith in
-    all (a .k .now) (a .permission) (l .own) (rw e at (l .inv .1))
+    all (a .k .now) (a .permission) (l .own) (gathered-set (l .inv) (c .loop-test .left))
 
 pub own-clauses-spec : {M : Type 1} → statement M
 own-clauses-spec =

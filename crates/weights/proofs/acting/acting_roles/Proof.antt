@@ -1,67 +1,20 @@
 -- `acting_roles` meets its contract: the set has the roles before the present one in which the user may act.
-use Prim.Native.Nat.{ℕ, _+_, _-_, _^_, _≤_, _<_}
-use mathlib.Core.Bool.{Bool, true, false}
-use mathlib.Core.Path.{_≡_, sym, _∙_}
+use Prim.Native.Nat.{_-_}
 use mathlib.Core.Logic.{inl, inr}
-use lib.Bits.{bitOr, or-zero-r}
-use Rattle.folds.specs.Sets.{setBelow}
-use Rattle.folds.proofs.Sets.{set-none, set-or}
+use Rattle.folds.proofs.Gathers.{Gathered, gathered-none, one-added, one-passed, gathered-set}
 use Rattle.weights.specs.Acting.{mayActBy}
-use native.Mathlib.Omega.{arith}
 use borrow.Author.Needs.{needs}
 use Rattle.weights.proofs.acting.acting_roles.Statement.{statement}
 use Rattle.weights.proofs.acting.acting_roles.Tie as tie
 
--- the loop's invariant: the set has the roles below r of which p holds
-record Turn (p : ℕ → Bool) (set r : ℕ) : Type 0 where
-  within : r ≤ 8
-  is : set ≡ setBelow r p
-
 abbrev Inv-loop : tie.InvT-loop
-Inv-loop users roles user set₀ r₀ set r = Turn (mayActBy roles users user) set r
+Inv-loop users roles user set₀ r₀ set r = Gathered 8 (mayActBy roles users user) r set
 
 abbrev μ-loop : tie.MeasureT-loop
 μ-loop users roles user set₀ r₀ set r = 8 - r
 
--- a turn, of plain values
-module _ {p : ℕ → Bool} {set r : ℕ} (turn : Turn p set r) where
-  added : {bit next : ℕ} → r < 8 → p r ≡ true → bit ≡ 2 ^ r → next ≡ bitOr set bit → Turn p next (r + 1)
-  added more e bit-is next-is =
-      let was = turn .is in
-      record { within = omega arith; is = next-is ∙ rw (set-or p r, e, was, bit-is) }
-
-  skipped : {next : ℕ} → r < 8 → p r ≡ false → next ≡ set → Turn p next (r + 1)
-  skipped more e next-is =
-      record { within = omega arith; is = next-is ∙ rw (set-or p r, e, or-zero-r) (turn .is) }
-
-  finished : 8 ≤ r → set ≡ setBelow 8 p
-  finished past =
-      let within = turn .within in
-      let end : r ≡ 8 = omega arith in
-      rw end at (turn .is)
-
--- what a run knows in the loop's body
-record Here : Type 0 where
-  p : ℕ → Bool
-  set : ℕ
-  r : ℕ
-  turn : Turn p set r
-  more : r < 8
-
-abbrev in-turn : tie.In-loop Inv-loop μ-loop → Here
-in-turn c =
-    let loop = c .before .loop in
-    let a = c .before .before .before .args in
-    record {
-      p = mayActBy (a .roles) (a .users .now) (a .user);
-      set = loop .set;
-      r = loop .r;
-      turn = loop .inv;
-      more = c .loop-test .taken;
-    }
-
 loop-holds : tie.Need-loop-holds Inv-loop μ-loop
-loop-holds c = record { within = omega arith; is = sym (set-none _) }
+loop-holds c = gathered-none
 
 cast-may-act : tie.Need-cast-may-act Inv-loop μ-loop
 cast-may-act c = search needs
@@ -80,15 +33,16 @@ loop-less c = search needs
 
 loop-again : tie.Need-loop-again Inv-loop μ-loop
 loop-again c =
-    let h = in-turn (c .before .before) in
-    let test = sym (c .before .may-act .ensures) in
+    let at = c .before .before in
+    let yet = at .before .loop .inv in
+    let test = c .before .may-act .ensures in
     elim (c .if1 .came) [
-      | inl (on, bit, next-is) ↦ added (h .turn) (h .more) (test ∙ on .taken) (bit .ensures) next-is
-      | inr (off, next-is) ↦ skipped (h .turn) (h .more) (test ∙ off .left) next-is
+      | inl d ↦ one-added yet (at .loop-test .taken) test (d .0 .taken) (d .1 .ensures) (d .2)
+      | inr d ↦ one-passed yet (at .loop-test .taken) test (d .0 .left) (d .1)
     ]
 
 returns : tie.Need-returns Inv-loop μ-loop
-returns c = finished (c .before .loop .inv) (c .loop-test .left)
+returns c = gathered-set (c .before .loop .inv) (c .loop-test .left)
 
 pub acting-roles-spec : {M : Type 1} → statement M
 acting-roles-spec =
