@@ -2,11 +2,9 @@ pub mod Answers
 pub mod Bridge
 pub mod Copy
 pub mod Demand
-pub mod Fewest
 pub mod Filling
 pub mod Least
 pub mod Part
-pub mod Seek
 pub mod Shown
 pub mod Standing
 pub mod Turned

@@ -32,7 +32,7 @@ use Rattle.report.specs.Smallest.{smallestOf}
 use Rattle.seek.specs.Search.{Answered}
 use Rattle.masks.specs.Sets.{RoleCounts}
 use Rattle.masks.proofs.Made.{checked}
-use Rattle.report.specs.Search.{holdsWith, Seeking}
+use Rattle.fewest.specs.Search.{holdsWith, Seeking}
 use Rattle.report.specs.Parts.{ActingSets, PartFor}
 use Rattle.report.proofs.Bridge.{Tables}
 use Rattle.report.proofs.Least.{of-decision, users-le}

@@ -18,7 +18,7 @@ use Rattle.multisets.specs.Rising.{Entry, entriesSum, entriesRoles, bytesOf}
 use Rattle.seek.specs.Search.{Meets, Answered}
 use Rattle.masks.specs.declared.Placed.{Placed}
 use Rattle.report.specs.Smallest.{smallest}
-use Rattle.report.specs.Search.{holdsWith}
+use Rattle.fewest.specs.Search.{holdsWith}
 use Rattle.report.specs.Report.{partBytes}
 use Rattle.report.proofs.Bridge.{Tables}
 use Rattle.report.proofs.Turned.{rises-rising, rises-granted, granted-rises, bytes-length}

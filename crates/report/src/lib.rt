@@ -6,8 +6,6 @@ ghost use Rattle.report.specs.Report.{Reported};
 ghost use Rattle.report.specs.Demand.{Demanded};
 
 mod parts;
-pub mod search;
-mod weighing;
 
 // Entry point: writes for each permission the number k of approvers, k entries by rising user, and 255 in every byte
 // left of 13; later bytes keep their contents. The count is the number of permissions with k above 0. Refusals 1 to 9,

@@ -1,5 +1,4 @@
 // The 13 bytes of each permission.
-use crate::search;
 use masks::Placed;
 use multisets::ends;
 use multisets::levels;
@@ -95,7 +94,7 @@ fn part_for<'a>(
         sum: 0,
         roles: 0,
     };
-    let found = search::fewest(
+    let found = fewest::fewest(
         k,
         permission,
         w,

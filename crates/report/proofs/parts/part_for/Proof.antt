@@ -14,7 +14,7 @@ use Rattle.seek.specs.Search.{Answered}
 use Rattle.multisets.specs.Rising.{bytesOf}
 use Rattle.multisets.specs.Ranks.{first}
 use Rattle.multisets.specs.Levels.{Levels}
-use Rattle.report.specs.Search.{holdsWith, Seeking}
+use Rattle.fewest.specs.Search.{holdsWith, Seeking}
 use Rattle.report.proofs.Shown.{nobody}
 use Rattle.report.proofs.Turned.{bytes-length}
 use Rattle.report.proofs.Part.{seeking, part-none, part-found}

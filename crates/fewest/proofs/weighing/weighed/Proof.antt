@@ -5,9 +5,9 @@ use mathlib.Core.List.{List}
 use native.Mathlib.Omega.{arith}
 use lib.ListN.{getD}
 use Rattle.masks.specs.declared.Weighed.{Weighed}
-use Rattle.report.specs.Search.{WeighedBelow}
-use Rattle.report.proofs.weighing.weighed.Statement.{statement}
-use Rattle.report.proofs.weighing.weighed.Tie as tie
+use Rattle.fewest.specs.Search.{WeighedBelow}
+use Rattle.fewest.proofs.weighing.weighed.Statement.{statement}
+use Rattle.fewest.proofs.weighing.weighed.Tie as tie
 
 eight : {w : List ℕ} {r : ℕ} {s : Weighed} → r ≡ 8 → WeighedBelow w r s → WeighedBelow w 8 s
 eight e b = rw e at b

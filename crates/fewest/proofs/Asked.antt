@@ -18,7 +18,7 @@ use Rattle.multisets.specs.Rising.{Entry, Rises, entriesSum, entriesRoles}
 use Rattle.seek.specs.Search.{metBy, byMasks, Meets, Answered}
 use Rattle.masks.specs.declared.Placed.{Placed}
 use Rattle.masks.specs.declared.Weighed.{Weighed}
-use Rattle.report.specs.Search.{holdsWith, WeighedBelow, LastRow}
+use Rattle.fewest.specs.Search.{holdsWith, WeighedBelow, LastRow}
 
 -- the sum and the set of entries by rising user, whose roles have weight
 module _ (sets : List ℕ) {w : List ℕ} {s : Weighed} (weighed : WeighedBelow w 8 s) where

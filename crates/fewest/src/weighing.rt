@@ -5,7 +5,7 @@ ghost use mathlib.Core.Path.{_≡_};
 ghost use Prim.Native.Nat.{ℕ, _+_, _≤_, _<_};
 ghost use mathlib.Core.List.{List};
 ghost use lib.ListN.{getD};
-ghost use Rattle.report.specs.Search.{WeighedBelow};
+ghost use Rattle.fewest.specs.Search.{WeighedBelow};
 
 // The lesser of two weights, of which x is 0 where there is none yet.
 fn lesser(x: usize, y: usize) -> usize

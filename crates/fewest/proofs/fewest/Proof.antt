@@ -2,10 +2,10 @@ use borrow.Author.Needs.{needs}
 use mathlib.Core.Path.{_≡_, refl, sym, _∙_}
 use native.Mathlib.Omega.{arith}
 use Rattle.masks.specs.Clauses.{clausesOf}
-use Rattle.report.proofs.Fewest.{fewest-is}
-use Rattle.report.proofs.Seek.{sum-few, masks-ready, search-ready, telling, last-sum, no-clause, no-weight}
-use Rattle.report.proofs.search.fewest.Statement.{statement}
-use Rattle.report.proofs.search.fewest.Tie as tie
+use Rattle.fewest.proofs.Asked.{fewest-is}
+use Rattle.fewest.proofs.Seek.{sum-few, masks-ready, search-ready, telling, last-sum, no-clause, no-weight}
+use Rattle.fewest.proofs.fewest.Statement.{statement}
+use Rattle.fewest.proofs.fewest.Tie as tie
 
 abbrev entered4 : tie.After-shared-slice-known4 → tie.Start
 entered4 c = c .before .before .before .before

@@ -1,6 +1,5 @@
 // The fewest entries that meet a permission's condition, among any users and from any entries placed before. It knows
 // no base.
-use crate::weighing;
 use masks::Placed;
 use reader::bytes;
 use seek::Found;
@@ -12,7 +11,9 @@ ghost use Rattle.multisets.specs.Ranks.{first, Starts};
 ghost use Rattle.multisets.specs.Ends.{NextEnds};
 ghost use Rattle.multisets.specs.Levels.{Levels};
 ghost use Rattle.seek.specs.Search.{Answered};
-ghost use Rattle.report.specs.Search.{holdsWith, LastRow, Seeking};
+ghost use Rattle.fewest.specs.Search.{holdsWith, LastRow, Seeking};
+
+mod weighing;
 
 // The last row that isn't empty, or 0.
 fn last_row(rows: [u64; 7]) -> usize

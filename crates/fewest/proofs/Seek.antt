@@ -20,8 +20,8 @@ use Rattle.masks.specs.Clauses.{clausesOf}
 use Rattle.masks.specs.Masks.{Masks}
 use Rattle.masks.specs.Masks as masks
 use Rattle.masks.proofs.Telling.{bare}
-use Rattle.report.specs.Search.{holdsWith, WeighedBelow, LastRow, Seeking}
-use Rattle.report.proofs.Fewest.{Telling, fewest-none}
+use Rattle.fewest.specs.Search.{holdsWith, WeighedBelow, LastRow, Seeking}
+use Rattle.fewest.proofs.Asked.{Telling, fewest-none}
 
 module _ {k w : List ℕ} {start : Placed} {d : ℕ} {counts : List ℕ} (s : Seeking k w start d counts) where
   -- all sums are at most 240

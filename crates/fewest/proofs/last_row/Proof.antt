@@ -7,8 +7,8 @@ use lib.ListN.{getD}
 use mathlib.Core.Logic.{inl, inr, ⊎-elim}
 use native.Mathlib.Nat.{eq-or-lt-of-le, le-of-suc-le-suc}
 use native.Mathlib.Numerals.{add-one}
-use Rattle.report.proofs.search.last_row.Statement.{statement}
-use Rattle.report.proofs.search.last_row.Tie as tie
+use Rattle.fewest.proofs.last_row.Statement.{statement}
+use Rattle.fewest.proofs.last_row.Tie as tie
 
 -- the loop's invariant: of the rows below n
 record Turn (rows : List ℕ) (last n : ℕ) : Type 0 where

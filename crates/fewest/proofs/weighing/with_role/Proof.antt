@@ -8,9 +8,9 @@ use mathlib.Core.Logic.{⊎-elim}
 use native.Mathlib.Nat.{eq-or-lt-of-le, le-of-suc-le-suc, pos-of-ne-zero}
 use native.Mathlib.Numerals.{add-one}
 use Rattle.masks.specs.declared.Weighed.{Weighed}
-use Rattle.report.specs.Search.{WeighedBelow}
-use Rattle.report.proofs.weighing.with_role.Statement.{statement}
-use Rattle.report.proofs.weighing.with_role.Tie as tie
+use Rattle.fewest.specs.Search.{WeighedBelow}
+use Rattle.fewest.proofs.weighing.with_role.Statement.{statement}
+use Rattle.fewest.proofs.weighing.with_role.Tie as tie
 
 -- a role below r + 1 is r or below it
 module _ {A : Type 0} {k r : ℕ} where
