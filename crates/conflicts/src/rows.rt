@@ -86,10 +86,10 @@ fn overlap_by(apart: &[u32; 16], covered: &[u8; 64], a: &[u8], i: usize, j: usiz
     requires { ⌜ (i < j) × (j < length (now a) / 8) × (length (now a) / 8 ≤ 64) × (policiesBad 8 16 (now a) ≡ false) ⌝ }
     ensures { λ r. ⌜ r ≡ overlapBy (now (apart .entry)) (now (covered .entry)) (now (a .entry)) i j ⌝ }
 {
-    if covered[i] & covered[j] == 0 {
+    if !weights::sets::in_set(apart[a[8 * i + 1] as usize], a[8 * j + 1]) {
         return false;
     }
-    weights::sets::in_set(apart[a[8 * i + 1] as usize], a[8 * j + 1])
+    covered[i] & covered[j] != 0
 }
 
 // The row of kind 2 for policy i.

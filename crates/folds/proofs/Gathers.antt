@@ -9,8 +9,8 @@ use Rattle.folds.specs.Sets.{inSet, setBelow}
 use Rattle.folds.proofs.Sets.{set-none, set-or, in-set, in-below}
 
 pub record Gathered (n : ℕ) (p : ℕ → Bool) (i set : ℕ) : Type 0 where
-  pub within : i ≤ n
   pub is : set ≡ setBelow i p
+  pub within : i ≤ n
 
 pub gathered-none : {n : ℕ} {p : ℕ → Bool} → Gathered n p 0 0
 gathered-none {n} {p} = record { within = omega arith; is = sym (set-none p) }

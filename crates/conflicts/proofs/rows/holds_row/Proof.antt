@@ -28,7 +28,7 @@ abbrev in-loop : tie.In-loop Inv-loop μ-loop → Start
 in-loop c = at-loop (c .before)
 
 loop-holds : tie.Need-loop-holds Inv-loop μ-loop
-loop-holds c = record { within = omega arith; is = sym (set-none _) }
+loop-holds c = record { is = sym (set-none _); within = omega arith }
 
 holds-both-requires : tie.Need-holds-both-requires Inv-loop μ-loop
 holds-both-requires c κs = (in-loop c .pre .0, omega (arith, c .loop-test .taken))

@@ -1,13 +1,14 @@
--- `overlap_by` meets its contract: the sets of covered roles are tested first, then the permissions.
+-- `overlap_by` meets its contract: the permissions are tested first, then the sets of covered roles.
 use Prim.Native.Nat.{ℕ, _/_, _<_}
-use mathlib.Core.Bool.{Bool, false, and-true, and-false}
+use mathlib.Core.Bool.{Bool, true, false, not}
 use mathlib.Core.List.{List}
-use mathlib.Core.Path.{_≡_, sym}
+use mathlib.Core.Path.{_≡_}
 use native.Mathlib.Omega.{arith}
 use native.Mathlib.Nat.{lt-trans}
 use borrow.Author.Needs.{needs}
-use borrow.Author.Tests.{lt-ltb, eq-eqb, ne-eqb}
+use borrow.Author.Tests.{lt-ltb, not-true, not-false}
 use lib.Bits.{bitAnd}
+use lib.Dec.{eqb}
 use lib.ListN.{length, getD}
 use Rattle.folds.specs.Sets.{inSet}
 use Rattle.reader.specs.Fields.{policyPermission}
@@ -17,18 +18,13 @@ use Rattle.conflicts.proofs.rows.overlap_by.Statement.{statement}
 use Rattle.conflicts.proofs.rows.overlap_by.Tie as tie
 
 -- the tests in turn, of plain values
-module _ (apart covered a : List ℕ) (i j : ℕ) (before : i < j) where
-  abbrev both : ℕ
-  both = bitAnd (getD covered i 0) (getD covered j 0)
+module _ (apart covered a : List ℕ) (i j : ℕ) {r : Bool} (before : i < j)
+    (test : r ≡ inSet (getD apart (policyPermission a i) 0) (policyPermission a j)) where
+  not-excluded : not r ≡ true → false ≡ overlapBy apart covered a i j
+  not-excluded h = rw (lt-ltb _ _ before, ← test, not-true r h)
 
-  abbrev excluded : Bool
-  excluded = inSet (getD apart (policyPermission a i) 0) (policyPermission a j)
-
-  no-role : both ≡ 0 → false ≡ overlapBy apart covered a i j
-  no-role none = rw (lt-ltb _ _ before, eq-eqb _ _ none) (sym (and-false excluded))
-
-  some-role : {r : Bool} → (both ≡ 0 → ⊥) → r ≡ excluded → r ≡ overlapBy apart covered a i j
-  some-role some e = rw (lt-ltb _ _ before, ne-eqb _ _ some, and-true excluded) e
+  by-roles : not r ≡ false → not (eqb (bitAnd (getD covered i 0) (getD covered j 0)) 0) ≡ overlapBy apart covered a i j
+  by-roles h = rw (lt-ltb _ _ before, ← test, not-false r h)
 
 -- the entry
 module _ (s : tie.Start) where
@@ -53,28 +49,14 @@ module _ (s : tie.Start) where
   second-small : policyPermission a j < 16
   second-small = policy-fine 8 16 a j (s .pre .3) inside .permission
 
-abbrev met : tie.After-if13 → tie.Start
-met c = c .before .before .before
-
-abbrev past : tie.Else1 → tie.Start
-past c = met (c .before)
-
 abbrev read1 : tie.After-shared-slice-known2 → tie.Start
-read1 c = past (c .before)
+read1 c = c .before .before
 
 abbrev read2 : tie.After-shared-slice-known3 → tie.Start
 read2 c = read1 (c .before .before)
 
-element-copy-out-if1 : tie.Need-element-copy-out-if1
-element-copy-out-if1 c = search needs
-
-element-copy-out-if1-2 : tie.Need-element-copy-out-if1-2
-element-copy-out-if1-2 c = search needs
-
-returns : tie.Need-returns
-returns c =
-    let s = met (c .before) in
-    no-role (s .args .apart .now) (s .args .covered .now) (a s) (i s) (j s) (before s) (c .if1 .taken)
+abbrev tested : tie.After-in-set → tie.Start
+tested c = read2 (c .before)
 
 mul-in-set : tie.Need-mul-in-set
 mul-in-set c = search needs
@@ -106,20 +88,29 @@ shared-slice-read-in-set-2 c = search needs
 in-set-requires : tie.Need-in-set-requires
 in-set-requires c κs = omega (arith, second-small (read2 c))
 
+returns : tie.Need-returns
+returns c =
+    let s = tested (c .before) in
+    let test = c .before .in-set .ensures in
+    not-excluded (s .args .apart .now) (s .args .covered .now) (a s) (i s) (j s) (before s) test (c .if1 .taken)
+
+element-copy-out-result : tie.Need-element-copy-out-result
+element-copy-out-result c = search needs
+
+element-copy-out-result-2 : tie.Need-element-copy-out-result-2
+element-copy-out-result-2 c = search needs
+
 returns-2 : tie.Need-returns-2
 returns-2 c =
-    let s = read2 (c .before) in
-    let reads = c .before .before in
-    let some = reads .before .before .if1 .left in
-    some-role (s .args .apart .now) (s .args .covered .now) (a s) (i s) (j s) (before s) some (c .in-set .ensures)
+    let branch = c .before .before in
+    let s = tested (branch .before) in
+    let test = branch .before .in-set .ensures in
+    by-roles (s .args .apart .now) (s .args .covered .now) (a s) (i s) (j s) (before s) test (branch .if1 .left)
 
 pub overlap-by-spec : {M : Type 1} → statement M
 overlap-by-spec =
     tie.close
     (tie.spec
-    element-copy-out-if1
-    element-copy-out-if1-2
-    returns
     mul-in-set
     add-in-set
     shared-slice-read-in-set
@@ -130,4 +121,7 @@ overlap-by-spec =
     add-in-set-2
     shared-slice-read-in-set-2
     in-set-requires
+    returns
+    element-copy-out-result
+    element-copy-out-result-2
     returns-2)

@@ -1,3 +1,4 @@
+-- `count_all` meets its contract: the numbers of the three kinds, added.
 use native.Mathlib.Omega.{arith}
 use borrow.Author.Needs.{needs}
 use lib.ListN.{length-append}
