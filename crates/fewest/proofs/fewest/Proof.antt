@@ -1,3 +1,4 @@
+-- `fewest` meets its contract: the masks tell the permission's condition, so the search by masks finds the answer.
 use borrow.Author.Needs.{needs}
 use mathlib.Core.Path.{_≡_, refl, sym, _∙_}
 use native.Mathlib.Omega.{arith}

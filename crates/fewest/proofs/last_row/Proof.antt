@@ -1,3 +1,4 @@
+-- `last_row` meets its contract: no row of those passed behind the last one kept is other than empty.
 use borrow.Author.Needs.{needs}
 use Prim.Native.Nat.{ℕ, _+_, _-_, _≤_, _<_}
 use mathlib.Core.Path.{_≡_}

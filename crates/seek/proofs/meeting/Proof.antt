@@ -1,3 +1,4 @@
+-- `meeting` meets its contract: no place so far meets the row, eight at a time and then the rest.
 use borrow.Author.Needs.{needs}
 use Prim.Native.Nat.{ℕ, _-_, _≤_, _<_}
 use mathlib.Core.Path.{_≡_}

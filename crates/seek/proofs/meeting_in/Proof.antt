@@ -1,3 +1,4 @@
+-- `meeting_in` meets its contract: no place so far meets the row.
 use borrow.Author.Needs.{needs}
 use Prim.Native.Nat.{ℕ, _+_, _-_, _≤_, _<_}
 use mathlib.Core.Path.{_≡_, sym, _∙_}

@@ -1,3 +1,4 @@
+-- `meeting_in_eight` meets its contract: where the clauses of all eight together miss the row, each place does.
 use borrow.Author.Needs.{needs}
 use native.Mathlib.Omega.{arith}
 use Rattle.seek.proofs.Eights.{eight-missed}

@@ -1,3 +1,4 @@
+-- `met_at` meets its contract: the three masks have a clause in common, and the end is not 255.
 use borrow.Author.Needs.{needs}
 use Prim.Native.Nat.{ℕ}
 use mathlib.Core.Bool.{Bool, true, false, _&&_, not}

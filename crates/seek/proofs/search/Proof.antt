@@ -1,3 +1,4 @@
+-- `search` meets its contract: no level so far has a place that meets its row; the first that has one gives the group.
 use borrow.Author.Needs.{needs}
 use Prim.Native.Nat.{ℕ, suc, _+_, _-_, _*_, _≤_, _<_}
 use mathlib.Core.Path.{_≡_, refl, _∙_}

@@ -1,3 +1,4 @@
+-- `some_met` meets its contract: the clauses of the places so far are joined.
 use borrow.Author.Needs.{needs}
 use Prim.Native.Nat.{ℕ, _+_, _-_, _≤_, _<_}
 use mathlib.Core.Path.{_≡_}

@@ -1,3 +1,4 @@
+-- `try_level` meets its contract: with the level's sums and ends made, a place that meets the row is looked for.
 use Prim.Native.Nat.{ℕ, suc, _+_, _*_, _≤_}
 use mathlib.Core.Path.{_≡_}
 use mathlib.Core.Bool.{Bool}

@@ -1,3 +1,4 @@
+-- `weighed` meets its contract: role by role, what the roles before it weigh.
 use borrow.Author.Needs.{needs}
 use Prim.Native.Nat.{ℕ, _-_, _≤_}
 use mathlib.Core.Path.{_≡_, ap, _∙_}

@@ -1,3 +1,4 @@
+-- `with_role` meets its contract: a role without weight changes nothing, one with weight each of the three bounds.
 use borrow.Author.Needs.{needs}
 use Prim.Native.Nat.{ℕ, _+_, _-_, _≤_, _<_}
 use mathlib.Core.Path.{_≡_, refl, sym, _∙_}

@@ -1,3 +1,4 @@
+-- `group` meets its contract: from the last entry to the first, each is the one by which the end came.
 use borrow.Author.Needs.{needs}
 use Prim.Native.Nat.{ℕ, _+_, _-_, _*_, _/_, _%_, _≤_, _<_}
 use mathlib.Core.Path.{_≡_, refl, sym, ap, _∙_}

@@ -1,3 +1,4 @@
+-- `end_from` meets its contract: the user at `from` may act in the role, or the next end is that of the user after.
 use native.Mathlib.Omega.{arith}
 use mathlib.Core.Path.{sym, _∙_}
 use Rattle.multisets.proofs.Nexts.{end-here, end-later}

@@ -1,3 +1,4 @@
+-- `next_ends` meets its contract: the ends from a user on are made from those of the user after, role by role.
 use borrow.Author.Needs.{needs}
 use Prim.Native.Nat.{ℕ, _+_, _-_, _*_, _≤_, _<_}
 use mathlib.Core.Path.{_≡_, refl, _∙_}

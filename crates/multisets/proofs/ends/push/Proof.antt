@@ -1,3 +1,4 @@
+-- `push` meets its contract: role by role, the multiset with that role more keeps the smaller end.
 use borrow.Author.Needs.{needs}
 use Prim.Native.Nat.{ℕ, suc, _+_, _-_, _*_, _≤_, _<_}
 use mathlib.Core.Path.{_≡_, refl, _∙_}

@@ -1,3 +1,4 @@
+-- `relax` meets its contract: the end kept is the smaller one, with the entry by which it came.
 use mathlib.Core.Path.{refl}
 use native.Mathlib.Omega.{arith}
 use borrow.Author.Needs.{needs}

@@ -1,3 +1,4 @@
+-- `fixed_steps` meets its contract: each of the eight numbers by the starts of two levels.
 use borrow.Author.Needs.{needs}
 use Prim.Native.Nat.{ℕ, suc, _+_, _-_, _≤_, _<_}
 use mathlib.Core.Path.{_≡_, refl, ap, _∙_}

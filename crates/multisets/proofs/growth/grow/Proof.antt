@@ -1,3 +1,4 @@
+-- `grow` meets its contract: the level of no role and those above it are made by two functions.
 use borrow.Author.Needs.{needs}
 use Prim.Native.Nat.{ℕ, suc, _-_}
 use mathlib.Core.Path.{_≡_}

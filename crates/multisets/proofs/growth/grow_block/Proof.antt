@@ -1,3 +1,5 @@
+-- `grow_block` meets its contract: each multiset of the block gets its row from the one without its largest role, and
+-- is pushed on.
 use borrow.Author.Needs.{needs}
 use Prim.Native.Nat.{ℕ, suc, _+_, _-_, _*_, _≤_, _<_}
 use mathlib.Core.Path.{_≡_, refl, ap, _∙_}

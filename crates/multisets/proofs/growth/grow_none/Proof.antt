@@ -1,3 +1,4 @@
+-- `grow_none` meets its contract: the empty multiset's row is the roles themselves.
 use borrow.Author.Needs.{needs}
 use Prim.Native.Nat.{ℕ, _≤_, _<_}
 use mathlib.Core.Path.{_≡_, refl, sym, _∙_}

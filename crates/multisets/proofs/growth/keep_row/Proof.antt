@@ -1,3 +1,4 @@
+-- `keep_row` meets its contract: the numbers are stored one behind the other, or not at all.
 use borrow.Author.Needs.{needs}
 use Prim.Native.Nat.{_-_, _≤_}
 use mathlib.Core.Path.{_≡_, refl}

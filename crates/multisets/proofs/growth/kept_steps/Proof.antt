@@ -1,3 +1,4 @@
+-- `kept_steps` meets its contract: for roles below r, what lies behind without the largest role counts once more.
 use borrow.Author.Needs.{needs}
 use Prim.Native.Nat.{ℕ, _+_, _-_, _≤_, _<_}
 use mathlib.Core.Path.{_≡_, refl, _∙_}

@@ -1,3 +1,4 @@
+-- `ups_of` meets its contract: each number is the fixed one, with the one kept where it counts.
 use borrow.Author.Needs.{needs}
 use Prim.Native.Nat.{ℕ, _+_, _-_, _*_, _≤_, _<_}
 use mathlib.Core.Path.{_≡_, refl}

@@ -1,3 +1,4 @@
+-- `begin` meets its contract: the one multiset of no role ends at 0, all others are not reached.
 use borrow.Author.Needs.{needs}
 use Prim.Native.Nat.{ℕ, _<_}
 use mathlib.Core.Path.{sym}

@@ -1,3 +1,4 @@
+-- `reach` meets its contract: level after level, each from the one before.
 use borrow.Author.Needs.{needs}
 use Prim.Native.Nat.{ℕ, suc, _+_, _-_}
 use mathlib.Core.Path.{_≡_, refl, _∙_}

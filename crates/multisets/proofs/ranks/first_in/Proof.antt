@@ -1,3 +1,4 @@
+-- `first_in` meets its contract: the levels of fewer roles have as many multisets as the next start says.
 use borrow.Author.Needs.{needs}
 use Prim.Native.Nat.{ℕ, suc, _+_, _-_}
 use mathlib.Core.Path.{_≡_, sym, ap, _∙_}

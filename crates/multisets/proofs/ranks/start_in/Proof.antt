@@ -1,3 +1,4 @@
+-- `start_in` meets its contract: the number is read off the table of starts.
 use borrow.Author.Needs.{needs}
 use Rattle.multisets.proofs.ranks.start_in.Statement.{statement}
 use Rattle.multisets.proofs.ranks.start_in.Tie as tie

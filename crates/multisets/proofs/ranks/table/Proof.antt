@@ -1,3 +1,4 @@
+-- `table` meets its contract: each of its numbers is the start that it stands for.
 use Prim.Native.Nat.{ℕ, _+_, _*_, _≤_}
 use mathlib.Core.Bool.{Bool, true, _&&_}
 use mathlib.Core.Path.{_≡_, refl}

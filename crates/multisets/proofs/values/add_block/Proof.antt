@@ -1,3 +1,4 @@
+-- `add_block` meets its contract: what is written so far is the block with x added.
 use borrow.Author.Needs.{needs}
 use Prim.Native.Nat.{_+_, _-_, _≤_}
 use mathlib.Core.Path.{_≡_}

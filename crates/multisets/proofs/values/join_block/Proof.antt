@@ -1,3 +1,4 @@
+-- `join_block` meets its contract: what is written so far is the block with x joined.
 use borrow.Author.Needs.{needs}
 use Prim.Native.Nat.{ℕ, _+_, _-_, _≤_}
 use mathlib.Core.Path.{_≡_, ap}

@@ -1,3 +1,4 @@
+-- `role_bit` meets its contract: 1 shifted by r is 2 to the r.
 use Rattle.folds.proofs.Sets.{one-shifted}
 use borrow.Author.Needs.{needs}
 use Rattle.multisets.proofs.values.role_bit.Statement.{statement}

@@ -1,3 +1,4 @@
+-- `sum_level` meets its contract: the sum of no role is what is placed; a level's sums come from the level before.
 use borrow.Author.Needs.{needs}
 use Prim.Native.Nat.{ℕ, suc, _+_, _-_, _≤_, _<_}
 use mathlib.Core.Path.{_≡_, sym, ap, _∙_}

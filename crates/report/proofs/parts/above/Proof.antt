@@ -1,3 +1,4 @@
+-- `above` meets its contract: 1 for a number above 0, else 0.
 use Prim.Native.Nat.{_<_}
 use native.Mathlib.Omega.{arith}
 use borrow.Author.Tests.{lt-ltb, le-ltb}

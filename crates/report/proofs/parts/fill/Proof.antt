@@ -1,3 +1,4 @@
+-- `fill` meets its contract: the tables for five roles suffice where there are at most five.
 use borrow.Author.Needs.{needs}
 use Rattle.reader.proofs.Frame.{framed}
 use Rattle.reader.proofs.Accepted.{accepted-frame}

@@ -1,3 +1,4 @@
+-- `fill_few` meets its contract: its tables have room for the multisets of five roles.
 use borrow.Author.Needs.{needs}
 use Prim.Native.Nat.{ℕ, _*_, _≤_}
 use mathlib.Core.Path.{_≡_, refl}

@@ -1,3 +1,4 @@
+-- `fill_in` meets its contract: what `fill_parts` asks for is worked out here, once a report.
 use borrow.Author.Needs.{needs}
 use Prim.Native.Nat.{ℕ, _/_, _^_, _≤_}
 use mathlib.Core.Path.{_≡_, refl, _∙_}

@@ -1,3 +1,4 @@
+-- `fill_many` meets its contract: its tables have room for the multisets of eight roles.
 use borrow.Author.Needs.{needs}
 use Prim.Native.Nat.{ℕ, _*_, _≤_}
 use mathlib.Core.Path.{_≡_, refl}

@@ -1,3 +1,5 @@
+-- `fill_parts` meets its contract: permission by permission, the parts so far stand and the count is that of those with
+-- a group.
 use borrow.Author.Needs.{needs}
 use Prim.Native.Nat.{ℕ, _+_, _-_, _*_, _≤_, _<_}
 use mathlib.Core.Bool.{cond}

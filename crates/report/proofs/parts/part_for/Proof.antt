@@ -1,3 +1,4 @@
+-- `part_for` meets its contract: the search's answer is a smallest granted group, or that there is none.
 use borrow.Author.Needs.{needs}
 use Prim.Native.Nat.{ℕ, _-_, _*_, _≤_}
 use mathlib.Core.Bool.{Bool}

@@ -1,3 +1,4 @@
+-- `part_of` meets its contract: the number first, then the twelve bytes copied.
 use borrow.Author.Needs.{needs}
 use Prim.Native.Nat.{ℕ, suc, _+_, _-_, _≤_, _<_}
 use mathlib.Core.Path.{_≡_, refl, ap, _∙_}

@@ -1,3 +1,4 @@
+-- `put` meets its contract: the bytes are copied from the front.
 use Prim.Native.Nat.{_-_, _≤_}
 use mathlib.Core.Path.{_≡_, refl, sym, _∙_}
 use mathlib.Core.List.{_++_}
