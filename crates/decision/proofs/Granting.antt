@@ -94,6 +94,16 @@ none-of false false true s h = absurd (suc-ne-zero 13 h)
 none-of false false false true h = absurd (suc-ne-zero 14 h)
 none-of false false false false h = (refl, refl, refl, refl)
 
+-- a chain of four refusals before what follows is one chain
+one-chain : (p q r s : Bool) (left : ℕ) →
+    let four = cond {A = ℕ} p 12 (cond q 13 (cond r 14 (cond s 15 0))) in
+    cond (not (eqb four 0)) four left ≡ cond p 12 (cond q 13 (cond r 14 (cond s 15 left)))
+one-chain true q r s left = refl
+one-chain false true r s left = refl
+one-chain false false true s left = refl
+one-chain false false false true left = refl
+one-chain false false false false left = refl
+
 -- where 12 to 17 give 0, so do 12 to 15, no role is weightless and the condition holds
 none-left : (m : ℕ) (t c : Bool) → cond (not (eqb m 0)) m (cond t 16 (cond c 0 17)) ≡ 0 →
     (m ≡ 0) × (t ≡ false) × (c ≡ true)
@@ -131,6 +141,19 @@ whole-length g whole some few =
 module _ (U R : ℕ) (may : ℕ → ℕ → Bool) (weigh : ℕ → ℕ) (condition : ℕ → ℕ → ℕ → Bool) (g : List ℕ) where
   abbrev holds : Bool
   holds = condition (entryCount g) (sumOf weigh g) (rolesOf g)
+
+  -- refusals 12 to 17 are the first that applies of one chain
+  pub refusal-chain : groupRefusal U R may weigh condition g ≡
+      cond (lengthRefused g) 12
+      (cond (someUnknown U R g) 13
+      (cond (someTwice g) 14
+      (cond (someIneligible may g) 15
+      (cond (someWeightless weigh g) 16
+      (cond holds 0 17)))))
+  unfolding groupRefusal membersRefusal
+  refusal-chain =
+      one-chain (lengthRefused g) (someUnknown U R g) (someTwice g) (someIneligible may g)
+      (cond (someWeightless weigh g) 16 (cond holds 0 17))
 
   granted-of : groupRefusal U R may weigh condition g ≡ 0 → Granted U R may weigh condition g
   unfolding groupRefusal lengthRefused someTwice standsBefore someIneligible someWeightless
