@@ -63,9 +63,9 @@ module _ (b : List ℕ) (at : Context) (p : ℕ) (w g : List ℕ) (are : AreWeig
 
 -- what the tables and R handed on say is what the base says
 module _ (b : List ℕ) (g : List ℕ) where
-  pub unknown-same : (us : List ℕ) (R : ℕ) → us ≡ tableOf b users → R ≡ roleCount b →
-      someUnknown (length us / 4) R g ≡ someUnknown (userCount b) (roleCount b) g
-  unknown-same us R e f = rw (e, f)
+  pub unknown-same : (U R : ℕ) → U ≡ userCount b → R ≡ roleCount b →
+      someUnknown U R g ≡ someUnknown (userCount b) (roleCount b) g
+  unknown-same U R e f = rw (e, f)
 
   pub ineligible-same : (us : List ℕ) (R : ℕ) → us ≡ tableOf b users → R ≡ roleCount b →
       someIneligible (mayActBy R us) g ≡ someIneligible (mayAct b) g

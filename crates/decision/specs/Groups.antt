@@ -36,9 +36,13 @@ rolesOf g = setBelow 8 (actedIn g)
 unfoldable pub lengthRefused : List ℕ → Bool
 lengthRefused g = eqb (length g) 0 || (not (eqb (length g % 2) 0) || ltb 12 (length g))
 
--- refusal 13: an entry's user isn't among U users, or its role isn't below R
+-- refusal 13 of one entry: its user isn't among U users, or its role isn't below R
+abbrev pub unknown : ℕ → ℕ → ℕ → ℕ → Bool
+unknown U R u r = not (ltb u U) || not (ltb r R)
+
+-- refusal 13: entry i's user isn't there, or its role
 abbrev pub unknownAt : ℕ → ℕ → List ℕ → ℕ → Bool
-unknownAt U R g i = not (ltb (entryUser g i) U) || not (ltb (entryRole g i) R)
+unknownAt U R g i = unknown U R (entryUser g i) (entryRole g i)
 
 unfoldable pub someUnknown : ℕ → ℕ → List ℕ → Bool
 unfolding anyBelow

@@ -9,6 +9,8 @@ ghost use Rattle.report.specs.Demand.{Demanded};
 ghost use Rattle.conflicts.specs.Conflicts.{conflictAnswer, conflictBytes};
 ghost use Rattle.exports.specs.Packed.{packed, unpacked};
 ghost use Rattle.decision.specs.Decision.{decisionOf};
+ghost use Rattle.sheet.specs.Sheets.{opened, signed, asked};
+ghost use Rattle.sheet.specs.Form.{bytesOf, sheetOf};
 
 // The base check: 0 or the first of refusals 1 to 9 that applies.
 #[no_mangle]
@@ -70,6 +72,54 @@ pub extern "C" fn release_conflicts(base: &[u8], out: &mut [u8]) -> u64
         (now (out .exit) ≡ conflictBytes (now (base .entry)) (now (out .entry))) ⌝ }
 {
     pack(conflicts::list(base, out))
+}
+
+// Opening a sheet: 0, and the unsigned sheet for the permission, or the first of refusals 1 to 10 that applies, and the
+// one for permission 255. All 14 bytes are written, of a refusal too. base and sheet don't overlap.
+#[no_mangle]
+pub extern "C" fn release_sheet_open(base: &[u8], permission: u32, sheet: &mut [u8; 14]) -> u32
+    ensures { λ r. ⌜
+        (r ≡ opened (now (base .entry)) permission .refusal) ×
+        (now (sheet .exit) ≡ bytesOf (opened (now (base .entry)) permission .sheet)) ⌝ }
+{
+    let outcome = sheet::open(base, permission);
+    let given = outcome.sheet;
+    sheet::form::write(given, sheet);
+    outcome.refusal as u32
+}
+
+// Signing a sheet: 0, and the sheet with the entry, or the first of refusals 1 to 9, 13, 14, 15 and 20 that applies,
+// and no byte changed. base and sheet don't overlap.
+#[no_mangle]
+pub extern "C" fn release_sheet_sign(base: &[u8], user: u32, role: u32, sheet: &mut [u8; 14]) -> u32
+    ensures outcome { λ r. ⌜
+        (r ≡ signed (now (base .entry)) (sheetOf (now (sheet .entry))) user role .refusal) ×
+        (now (sheet .exit) ≡ bytesOf (signed (now (base .entry)) (sheetOf (now (sheet .entry))) user role .sheet)) ⌝ }
+    ensures kept { λ r. ⌜ ((r ≡ 0 → ⊥) → now (sheet .exit) ≡ now (sheet .entry)) ⌝ }
+{
+    let s = sheet::form::read(sheet);
+    let outcome = sheet::sign(base, s, user, role);
+    let given = outcome.sheet;
+    sheet::form::write(given, sheet);
+    outcome.refusal as u32
+}
+
+// Asking a sheet: the decision for its permission and the entries that it holds.
+#[no_mangle]
+pub extern "C" fn release_sheet_ask(
+    base: &[u8],
+    minute: u32,
+    day: u32,
+    zone: u32,
+    sheet: &[u8; 14],
+) -> u32
+    ensures { λ r. ⌜
+        r ≡ asked (now (base .entry)) (sheetOf (now (sheet .entry)))
+        (record { minute = minute; day = day; zone = zone }) ⌝ }
+{
+    let at = Context { minute, day, zone };
+    let s = sheet::form::read(sheet);
+    sheet::ask(base, s, at) as u32
 }
 
 // An answer as one number.

@@ -7,20 +7,20 @@ use mathlib.Core.List.{List, _++_}
 use native.Mathlib.Nat.{eq-zero-or-pos}
 use native.Mathlib.Omega.{arith}
 use borrow.Author.Tests.{eqb-true, eq-eqb, le-ltb}
-use lib.Dec.{ltb, eqb, lit<}
+use lib.Dec.{ltb, eqb}
 use lib.ListN.{length, drop}
 use Rattle.folds.specs.Below.{joinBelow}
 use Rattle.folds.proofs.Lists.{join-same, join-length}
 use Rattle.folds.proofs.Numbers.{sum-le, count-le}
-use Rattle.reader.specs.Tables.{permissionCount, users}
+use Rattle.reader.specs.Tables.{permissionCount}
 use Rattle.reader.specs.Rules.{refusalOf}
-use Rattle.reader.proofs.Frame.{record-count, count-limit, roles-range, permissions-le}
+use Rattle.reader.proofs.Frame.{roles-range, permissions-le}
 use Rattle.reader.proofs.Accepted.{accepted-frame}
 use Rattle.weights.specs.declared.Context.{Context}
 use Rattle.weights.specs.Contexts.{outOfRange}
 use Rattle.decision.specs.Groups.{entryCount, entryUser, entryRole}
-use Rattle.decision.specs.Decision.{userCount}
 use Rattle.decision.proofs.Granting.{granted-by}
+use Rattle.decision.proofs.Users.{users-le}
 use Rattle.report.specs.Smallest.{smallestOf}
 use Rattle.report.specs.Report.{reportRefusal, releasable, partBytes, reportBytes, ShownFor}
 use Rattle.report.specs.Demand.{numberFor, groupFor}
@@ -74,7 +74,7 @@ module _ (b : List ℕ) (at : Context) (p : ℕ) (g : List ℕ) (shown : ShownFo
       let e = count-is in
       let (ok, _, _, w) = granted-by b at p g .0 (shown .granted (omega arith)) in
       let f = accepted-frame b ok in
-      let n : userCount b ≤ 24 = rw (record-count b f users (lit< tt)) (count-limit b f users (lit< tt)) in
+      let n = users-le b f in
       let u = w .user i l in
       omega arith
 

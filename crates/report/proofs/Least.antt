@@ -8,19 +8,19 @@ use mathlib.Core.List.{List, [], _∷_}
 use native.Mathlib.Omega.{arith}
 use native.Mathlib.Nat.{eq-zero-or-pos, le-antisymm, lt-of-not-le, lt-irrefl, pos-of-ne-zero}
 use borrow.Author.Tests.{ltb-true, eqb-true, eqb-false, lt-ltb}
-use lib.Dec.{ltb, eqb, lit<}
+use lib.Dec.{ltb, eqb}
 use lib.ListN.{length, getD, drop, drop-of-length-le}
 use lib.Seq.{drop-cons}
 use Rattle.folds.specs.Below.{anyBelow, firstBelow}
 use Rattle.folds.proofs.Bools.{met-or-not, clash}
 use Rattle.folds.proofs.Tests.{any-found, any-some, first-least, first-lt, first-at}
-use Rattle.reader.specs.Tables.{frameRefusal}
-use Rattle.reader.proofs.Frame.{record-count, count-limit, roles-range}
+use Rattle.reader.proofs.Frame.{roles-range}
 use Rattle.reader.proofs.Accepted.{accepted-frame}
 use Rattle.weights.specs.declared.Context.{Context}
-use Rattle.decision.specs.Decision.{decisionOf, userCount}
+use Rattle.decision.specs.Decision.{decisionOf}
 use Rattle.decision.specs.Groups.{entryCount}
 use Rattle.decision.proofs.Granting.{granted-by}
+use Rattle.decision.proofs.Users.{users-le}
 use Rattle.report.specs.Smallest.{someGranted, smallest}
 
 -- `granted` grants only groups of 1 to 6 whole entries of bytes
@@ -172,10 +172,6 @@ bytes-of t n e user role i l =
 
     odd : (i % 2 ≡ 0 → ⊥) → getD t (2 * (i / 2) + 1) 0 < 256 → getD t i 0 < 256
     odd z h = let q : 2 * (i / 2) + 1 ≡ i = omega (arith, pos-of-ne-zero z) in rw q at h
-
--- a base that has its tables has at most 24 users
-pub users-le : (b : List ℕ) → frameRefusal b ≡ 0 → userCount b ≤ 24
-users-le b ok = rw (record-count b ok 1 (lit< tt)) (count-limit b ok 1 (lit< tt))
 
 -- the decision grants only such groups
 pub of-decision : (b : List ℕ) (at : Context) (p : ℕ) → OfBytes (λ g. eqb (decisionOf b at p g) 0)

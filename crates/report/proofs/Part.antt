@@ -28,6 +28,7 @@ use Rattle.decision.specs.Decision.{eligible, userCount, decisionOf}
 use Rattle.decision.specs.Conditions.{permissionHolds}
 use Rattle.decision.specs.Granting.{Granted}
 use Rattle.decision.proofs.Granting.{granted-by}
+use Rattle.decision.proofs.Users.{users-le}
 use Rattle.report.specs.Smallest.{smallestOf}
 use Rattle.seek.specs.Search.{Answered}
 use Rattle.masks.specs.Sets.{RoleCounts}
@@ -35,7 +36,7 @@ use Rattle.masks.proofs.Made.{checked}
 use Rattle.fewest.specs.Search.{holdsWith, Seeking}
 use Rattle.report.specs.Parts.{ActingSets, PartFor}
 use Rattle.report.proofs.Bridge.{Tables}
-use Rattle.report.proofs.Least.{of-decision, users-le}
+use Rattle.report.proofs.Least.{of-decision}
 use Rattle.report.proofs.Shown.{nobody, Shown, shown-none, shown-found}
 
 -- a test that implies two others is all three

@@ -16,8 +16,8 @@ use Rattle.weights.specs.declared.Context.{Context}
 use Rattle.decision.specs.Decision.{decisionOf}
 use Rattle.decision.specs.Groups.{entryCount, entryUser}
 use Rattle.decision.proofs.Granting.{granted-by}
+use Rattle.decision.proofs.Users.{users-le}
 use Rattle.report.specs.Demand.{userNum}
-use Rattle.report.proofs.Least.{users-le}
 
 -- a test met by one number more holds of one more
 count-added : (N : ℕ) (p q : ℕ → Bool) (v : ℕ) → v < N → p v ≡ false → ((u : ℕ) → q u ≡ (p u || eqb v u)) →

@@ -1,11 +1,12 @@
 -- `members_refusal` meets its contract: a chain of four refusals. A `Run` is what a run knows at a place of the code:
--- where it started, what it learnt of the tables read, and what is left of the chain.
+-- where it started, the number of roles, and what is left of the chain.
 use Prim.Native.Nat.{ℕ, _≤_}
 use mathlib.Core.Bool.{Bool, false, cond}
 use mathlib.Core.List.{List}
 use mathlib.Core.Path.{_≡_, sym, _∙_}
 use Rattle.folds.proofs.Bools.{met, passed}
-use Rattle.reader.specs.Tables.{users, roleCount, tableOf, frameRefusal}
+use Rattle.reader.specs.Tables.{roleCount, frameRefusal}
+use Rattle.reader.specs.Rules.{refusalOf}
 use Rattle.reader.proofs.Frame.{framed, roles-range}
 use Rattle.reader.proofs.Accepted.{accepted}
 use Rattle.weights.specs.Acting.{mayAct}
@@ -24,8 +25,11 @@ module _ (s : tie.Start) where
   abbrev group : List ℕ
   group = s .args .group .now
 
+  ok : refusalOf base ≡ 0
+  ok = s .pre
+
   frame : frameRefusal base ≡ 0
-  frame = accepted _ (s .pre) .frame
+  frame = accepted _ ok .frame
 
   abbrev unknown : Bool
   unknown = someUnknown (userCount base) (roleCount base) group
@@ -46,11 +50,9 @@ module _ (s : tie.Start) where
   unfolding membersRefusal
   rest12 h = passed 12 h
 
-  -- the tables read
+  -- the number of roles read
   record Read : Type 0 where
-    user-table : List ℕ
     roles : ℕ
-    users-are : user-table ≡ tableOf base users
     roles-are : roles ≡ roleCount base
 
   roles-few : (k : Read) → k .roles ≤ 8
@@ -75,31 +77,24 @@ abbrev past12 : tie.Else1 → tie.Start
 past12 c = start12 (c .before)
 
 -- 13
-abbrev at-roles : tie.After-part → tie.Start
-at-roles c = past12 (c .before)
-
-abbrev at-read : tie.After-role-count → Run left12
-at-read c =
-    let e = c .before .before in
+abbrev at-roles : tie.After-role-count → Run left12
+at-roles c =
+    let e = c .before in
     let s = past12 e in
     record {
       start = s;
-      read = record {
-        user-table = c .before .part .result .now;
-        roles = c .role-count .result;
-        users-are = c .before .part .ensures;
-        roles-are = c .role-count .ensures;
-      };
+      read = record { roles = c .role-count .result; roles-are = c .role-count .ensures };
       rest = rest12 s (test12 (e .before) ∙ e .if1 .left);
     }
 
 abbrev at13 : tie.After-some-unknown → Run left12
-at13 c = at-read (c .before)
+at13 c = at-roles (c .before .before)
 
 test13 : (c : tie.After-some-unknown) → unknown (at13 c .start) ≡ c .some-unknown .result
 test13 c =
-    let k = at13 c .read in
-    sym (c .some-unknown .ensures ∙ unknown-same (base (at13 c .start)) _ _ _ (k .users-are) (k .roles-are))
+    let r = at13 c in
+    let same = unknown-same (base (r .start)) _ _ _ (c .before .user-count .ensures) (r .read .roles-are) in
+    sym (c .some-unknown .ensures ∙ same)
 
 abbrev past13 : tie.Else2 → Run left13
 past13 c = pass (at13 (c .before)) (passed 13 (test13 (c .before) ∙ c .if2 .left))
@@ -115,13 +110,17 @@ abbrev past14 : tie.Else3 → Run left14
 past14 c = pass (at14 (c .before)) (passed 14 (test14 (c .before) ∙ c .if3 .left))
 
 -- 15
+abbrev at-users : tie.After-part → Run left14
+at-users c = past14 (c .before)
+
 abbrev at15 : tie.After-some-ineligible → Run left14
-at15 c = past14 (c .before)
+at15 c = at-users (c .before)
 
 test15 : (c : tie.After-some-ineligible) → ineligible (at15 c .start) ≡ c .some-ineligible .result
 test15 c =
-    let k = at15 c .read in
-    sym (c .some-ineligible .ensures ∙ ineligible-same (base (at15 c .start)) _ _ _ (k .users-are) (k .roles-are))
+    let r = at15 c in
+    let same = ineligible-same (base (r .start)) _ _ _ (c .before .part .ensures) (r .read .roles-are) in
+    sym (c .some-ineligible .ensures ∙ same)
 
 length-refused-requires : tie.Need-length-refused-requires
 length-refused-requires c κs = search needs
@@ -130,11 +129,11 @@ returns : tie.Need-returns
 unfolding membersRefusal
 returns c = met _ (test12 (c .before) ∙ c .if1 .taken)
 
-part-requires : tie.Need-part-requires
-part-requires c κs = (frame (past12 c), search needs)
-
 role-count-requires : tie.Need-role-count-requires
-role-count-requires c κs = framed _ (frame (at-roles c)) .long
+role-count-requires c κs = framed _ (frame (past12 c)) .long
+
+user-count-requires : tie.Need-user-count-requires
+user-count-requires c κs = ok (at-roles c .start)
 
 some-unknown-requires : tie.Need-some-unknown-requires
 some-unknown-requires c κs = search needs
@@ -148,8 +147,11 @@ some-twice-requires c κs = search needs
 returns-3 : tie.Need-returns-3
 returns-3 c = met _ (test14 (c .before) ∙ c .if3 .taken) ∙ sym (at14 (c .before) .rest)
 
+part-requires : tie.Need-part-requires
+part-requires c κs = (frame (past14 c .start), search needs)
+
 some-ineligible-requires : tie.Need-some-ineligible-requires
-some-ineligible-requires c κs = roles-few (past14 c .start) (past14 c .read)
+some-ineligible-requires c κs = roles-few (at-users c .start) (at-users c .read)
 
 returns-4 : tie.Need-returns-4
 returns-4 c = met _ (test15 (c .before) ∙ c .if4 .taken) ∙ sym (at15 (c .before) .rest)
@@ -163,12 +165,13 @@ members-refusal-spec =
     (tie.spec
     length-refused-requires
     returns
-    part-requires
     role-count-requires
+    user-count-requires
     some-unknown-requires
     returns-2
     some-twice-requires
     returns-3
+    part-requires
     some-ineligible-requires
     returns-4
     returns-5)

@@ -21,7 +21,7 @@ use Rattle.weights.proofs.Known.{acting-known}
 use Rattle.masks.specs.Sets.{RoleCounts}
 use Rattle.multisets.specs.Levels.{Levels, Blank}
 use Rattle.report.specs.Parts.{ActingSets}
-use Rattle.report.proofs.Least.{users-le}
+use Rattle.decision.proofs.Users.{users-le}
 use Rattle.report.proofs.parts.fill_in.Statement.{statement}
 use Rattle.report.proofs.parts.fill_in.Tie as tie
 

@@ -1,0 +1,5 @@
+pub mod Accepting
+pub mod Bytes
+pub mod Holding
+pub mod Making
+pub mod Passing

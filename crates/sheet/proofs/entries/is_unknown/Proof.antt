@@ -1,0 +1,41 @@
+-- `is_unknown` meets its contract: the user isn't there, or the role isn't.
+use Prim.Native.Nat.{ℕ, _<_, _≤_}
+use mathlib.Core.Bool.{true, _||_, not}
+use mathlib.Core.List.{List}
+use mathlib.Core.Path.{_≡_, sym}
+use lib.Dec.{ltb, leb}
+use borrow.Author.Tests.{lt-ltb, le-ltb}
+use borrow.Author.Needs.{needs}
+use Rattle.folds.proofs.Bools.{not-ltb}
+use Rattle.reader.specs.Tables.{roleCount}
+use Rattle.reader.proofs.Frame.{framed}
+use Rattle.reader.proofs.Accepted.{accepted-frame}
+use Rattle.decision.specs.Groups.{unknown}
+use Rattle.sheet.proofs.entries.is_unknown.Statement.{statement}
+use Rattle.sheet.proofs.entries.is_unknown.Tie as tie
+
+no-user : (n U R u r : ℕ) → n ≡ U → n ≤ u → true ≡ unknown U R u r
+no-user n U R u r e h = rw (← e, le-ltb _ _ h)
+
+by-role : (n U m R u r : ℕ) → n ≡ U → u < n → m ≡ R → leb m r ≡ unknown U R u r
+by-role n U m R u r e h f = rw (← e, ← f, lt-ltb _ _ h) (sym (not-ltb r m))
+
+user-count-requires : tie.Need-user-count-requires
+user-count-requires c κs = c .before .pre
+
+returns : tie.Need-returns
+returns c =
+    let s = c .before .before .before in
+    no-user _ _ (roleCount (s .args .base .now)) _ (s .args .role) (c .before .user-count .ensures) (c .if1 .taken)
+
+role-count-requires : tie.Need-role-count-requires
+role-count-requires c κs = framed _ (accepted-frame _ (c .before .before .before .pre)) .long
+
+cast-result : tie.Need-cast-result
+cast-result c = search needs
+
+returns-2 : tie.Need-returns-2
+returns-2 c = by-role _ _ _ _ _ _ (c .before .before .user-count .ensures) (c .before .if1 .left) (c .role-count .ensures)
+
+pub is-unknown-spec : {M : Type 1} → statement M
+is-unknown-spec = tie.close (tie.spec user-count-requires returns role-count-requires cast-result returns-2)

@@ -1,0 +1,76 @@
+-- A sheet that collects signatures for one permission: what it holds, and what opening, signing and asking give.
+use Prim.Native.Nat.{ℕ, _+_, _*_}
+use mathlib.Core.Bool.{Bool, not, cond}
+use mathlib.Core.List.{List, [], _∷_}
+use lib.ListN.{take, replicate}
+use lib.Seq.{sets}
+use lib.Dec.{ltb, eqb}
+use Rattle.folds.specs.Below.{anyBelow}
+use Rattle.reader.specs.Tables.{roleCount, permissionCount}
+use Rattle.reader.specs.Rules.{refusalOf}
+use Rattle.weights.specs.declared.Context.{Context}
+use Rattle.weights.specs.Acting.{mayAct}
+use Rattle.decision.specs.Groups.{entryCount, entryUser, unknown}
+use Rattle.decision.specs.Decision.{userCount, decisionOf}
+use Rattle.sheet.specs.declared.Sheet.{Sheet}
+use Rattle.sheet.specs.declared.Outcome.{Outcome}
+
+-- how many entries a sheet that claims n holds: six where it claims over six
+abbrev pub heldCount : ℕ → ℕ
+heldCount n = cond (ltb 6 n) 6 n
+
+-- what the sheet holds: the bytes of its entries, user and role acted in, in order of acceptance
+abbrev pub heldOn : Sheet → List ℕ
+heldOn s = take (2 * heldCount (s .count)) (s .entries)
+
+-- the unsigned sheet for permission p
+abbrev pub unsigned : ℕ → Sheet
+unsigned p = record { permission = p; count = 0; entries = replicate 12 0 }
+
+-- the first of refusals 1 to 10 that applies to an opening for permission p, or 0
+unfoldable pub openRefusal : List ℕ → ℕ → ℕ
+openRefusal b p =
+    cond (not (eqb (refusalOf b) 0)) (refusalOf b)
+    (cond (not (ltb p (permissionCount b))) 10 0)
+
+-- opening: the unsigned sheet for that permission; refused, the one for permission 255
+unfoldable pub opened : List ℕ → ℕ → Outcome
+unfolding openRefusal
+opened b p =
+    record { refusal = openRefusal b p; sheet = cond (eqb (openRefusal b p) 0) (unsigned p) (unsigned 255) }
+
+-- refusal 14 for a new entry: its user has one of the entries held
+unfoldable pub standsIn : List ℕ → ℕ → Bool
+unfolding anyBelow
+standsIn held u = anyBelow (entryCount held) (λ i. eqb (entryUser held i) u)
+
+-- the first of refusals 1 to 9, 13, 14, 15 and 20 that applies to a signing by user u in role r, or 0; 13 to 15 for the
+-- new entry alone, 20 where six entries are held already
+unfoldable pub signRefusal : List ℕ → List ℕ → ℕ → ℕ → ℕ
+unfolding standsIn
+signRefusal b held u r =
+    cond (not (eqb (refusalOf b) 0)) (refusalOf b)
+    (cond (unknown (userCount b) (roleCount b) u r) 13
+    (cond (standsIn held u) 14
+    (cond (not (mayAct b u r)) 15
+    (cond (not (ltb (entryCount held) 6)) 20 0))))
+
+-- the entry behind those claimed, one more claimed, every other byte as it was
+abbrev pub withEntry : Sheet → ℕ → ℕ → Sheet
+withEntry s u r =
+    record {
+      permission = s .permission;
+      count = s .count + 1;
+      entries = sets (s .entries) (2 * s .count) (u ∷ r ∷ []);
+    }
+
+-- signing: the sheet with the entry; refused, the sheet as it was
+unfoldable pub signed : List ℕ → Sheet → ℕ → ℕ → Outcome
+unfolding signRefusal
+signed b s u r =
+    let refusal = signRefusal b (heldOn s) u r in
+    record { refusal = refusal; sheet = cond (eqb refusal 0) (withEntry s u r) s }
+
+-- asking: the decision for the sheet's permission and the entries that it holds
+abbrev pub asked : List ℕ → Sheet → Context → ℕ
+asked b s at = decisionOf b at (s .permission) (heldOn s)

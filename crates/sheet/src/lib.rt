@@ -1,0 +1,102 @@
+// A sheet that collects signatures for one permission: opened, signed one by one against a base, and asked.
+use weights::Context;
+ghost use mathlib.Core.Path.{_≡_};
+ghost use Prim.Native.Nat.{_*_, _<_};
+ghost use Rattle.sheet.specs.Sheets.{opened, signed, asked, withEntry};
+
+pub mod entries;
+pub mod form;
+
+// The permission, how many entries are claimed, and room for six of 2 bytes: user, role acted in.
+pub struct Sheet {
+    pub permission: u8,
+    pub count: u8,
+    pub entries: [u8; 12],
+}
+
+// What opening and signing answer, 0 or a refusal, and the sheet afterwards.
+pub struct Outcome {
+    pub refusal: u8,
+    pub sheet: Sheet,
+}
+
+// Entry point: the unsigned sheet for the permission; of refusals 1 to 10, that for permission 255.
+pub fn open(base: &[u8], permission: u32) -> Outcome
+    ensures { λ r. ⌜ r ≡ opened (now (base .entry)) permission ⌝ }
+{
+    let refused = reader::check(base);
+    if refused != 0 {
+        return Outcome {
+            refusal: refused,
+            sheet: unsigned(255),
+        };
+    }
+    if reader::trailer::permission_count(base) as u32 <= permission {
+        return Outcome {
+            refusal: 10,
+            sheet: unsigned(255),
+        };
+    }
+    Outcome {
+        refusal: 0,
+        sheet: unsigned(permission as u8),
+    }
+}
+
+// Entry point: the sheet with the entry behind those that it holds; of refusals 1 to 9, 13 to 15 and 20, the sheet as
+// it was.
+pub fn sign(base: &[u8], s: Sheet, user: u32, role: u32) -> Outcome
+    ensures { λ r. ⌜ r ≡ signed (now (base .entry)) s user role ⌝ }
+{
+    let claimed = s.entries;
+    let refused = entries::sign_refusal(base, entries::held(&claimed, s.count), user, role);
+    if refused != 0 {
+        return Outcome {
+            refusal: refused,
+            sheet: s,
+        };
+    }
+    Outcome {
+        refusal: 0,
+        sheet: with_entry(s, user as u8, role as u8),
+    }
+}
+
+// Entry point: the decision for the sheet's permission and the entries that it holds.
+pub fn ask(base: &[u8], s: Sheet, at: Context) -> u8
+    ensures { λ r. ⌜ r ≡ asked (now (base .entry)) s at ⌝ }
+{
+    let claimed = s.entries;
+    decision::decide(
+        base,
+        s.permission as u32,
+        at,
+        entries::held(&claimed, s.count),
+    )
+}
+
+fn unsigned(permission: u8) -> Sheet
+    ensures { λ r. ⌜ r ≡ Rattle.sheet.specs.Sheets.unsigned permission ⌝ }
+{
+    Sheet {
+        permission,
+        count: 0,
+        entries: [0; 12],
+    }
+}
+
+// The sheet with one entry more, where there is room for it.
+fn with_entry(s: Sheet, user: u8, role: u8) -> Sheet
+    requires { ⌜ s .count < 6 ⌝ }
+    ensures { λ r. ⌜ r ≡ withEntry s user role ⌝ }
+{
+    let mut entries = s.entries;
+    let at = 2 * (s.count as usize);
+    entries[at] = user;
+    entries[at + 1] = role;
+    Sheet {
+        permission: s.permission,
+        count: s.count + 1,
+        entries,
+    }
+}
