@@ -8,8 +8,9 @@
  *
  * Answers. Each call takes any bytes whatever and gives one answer: 0 (granted
  * or done), or the number of the first refusal that applies, in the order of
- * enum release_refusal. A refused call writes nothing. An answer depends on
- * the arguments alone.
+ * enum release_refusal. A refused call writes nothing, with one exception: a
+ * refused opening gives the unsigned sheet for permission 255 in its 14 bytes.
+ * An answer depends on the arguments alone.
  *
  * Pointers. A slice passes as a pointer and its length in bytes.
  * - The pointer is valid for that length: base and group to read, out to read
@@ -18,12 +19,20 @@
  * - With length 0 the pointer may be anything, NULL too: it isn't followed.
  *   With a length above 0 it isn't NULL; nothing checks that.
  * - base and out don't overlap. base and group may.
- * - Nobody else writes the bytes during the call, and nobody else reads out.
- * The library keeps no pointer when the call has returned.
+ * A sheet passes as a pointer alone.
+ * - The pointer is valid for 14 bytes: to read and write for opening and
+ *   signing, to read for asking. It needs no alignment, and nothing beyond is
+ *   read or written. It is never NULL; nothing checks that.
+ * - base and a sheet that is opened or signed don't overlap. base and a sheet
+ *   that is asked may.
+ * Nobody else writes the bytes during the call, and nobody else reads out or a
+ * sheet that is opened or signed. The library keeps no pointer when the call
+ * has returned.
  *
  * Threads. There is no state between calls and nothing is allocated. Any
- * number of threads may call at once, also with the same base, each with a
- * buffer of its own.
+ * number of threads may call at once, also with the same base or asking the
+ * same sheet, each with a buffer of its own, or a sheet of its own to open or
+ * sign.
  *
  * Stack. release_report takes about 30,000 bytes, every other call less than
  * 4,096. A thread with 64 KiB of stack suffices for each.
@@ -50,9 +59,18 @@
 /* A conflict list has 3 bytes a conflict: kind, first, second. */
 #define RELEASE_CONFLICT_BYTES 3
 
-/* The refusals, in checking order. The tables of a base are H (hierarchy),
-   U (users), P (permissions), K (group clauses), C (context clauses),
-   A (policies) and X (exclusions); R is the number of roles. */
+/* A sheet has 14 bytes: at 0 its permission, at 1 the number of its entries,
+   from 2 on six entries of 2 bytes: user, role. It holds the first of them, as
+   many as its number says; one that says more than six holds six. */
+#define RELEASE_SHEET_BYTES 14
+#define RELEASE_SHEET_PERMISSION 0
+#define RELEASE_SHEET_COUNT 1
+#define RELEASE_SHEET_ENTRIES 2
+
+/* The refusals, in checking order; each call's comment says which it can give.
+   For signing the order is 1 to 9, 13, 14, 15, 20. The tables of a base are
+   H (hierarchy), U (users), P (permissions), K (group clauses), C (context
+   clauses), A (policies) and X (exclusions); R is the number of roles. */
 enum release_refusal {
     /* No refusal: granted or done. */
     RELEASE_DONE = 0,
@@ -84,7 +102,7 @@ enum release_refusal {
     RELEASE_REFUSAL_GROUP_LENGTH = 12,
     /* An entry's user isn't in U, or its role isn't below R. */
     RELEASE_REFUSAL_NO_USER_OR_ROLE = 13,
-    /* A user stands in two entries. */
+    /* A user stands in two entries; of a signing, its user is on the sheet. */
     RELEASE_REFUSAL_USER_TWICE = 14,
     /* An entry's user doesn't hold its role. */
     RELEASE_REFUSAL_MEMBERSHIP = 15,
@@ -95,7 +113,9 @@ enum release_refusal {
     /* The buffer is shorter than 3 times the number of conflicts. */
     RELEASE_REFUSAL_CONFLICT_BUFFER = 18,
     /* The buffer is shorter than 13 times the number of permissions. */
-    RELEASE_REFUSAL_REPORT_BUFFER = 19
+    RELEASE_REFUSAL_REPORT_BUFFER = 19,
+    /* The sheet already holds six entries. */
+    RELEASE_REFUSAL_SHEET_FULL = 20
 };
 
 #ifdef __cplusplus
@@ -156,6 +176,42 @@ uint64_t release_report(const uint8_t *base, size_t base_len,
  */
 uint64_t release_conflicts(const uint8_t *base, size_t base_len,
                            uint8_t *out, size_t out_len);
+
+/*
+ * Opens a sheet, which collects signatures for a permission: 0, or the first of
+ * refusals 1 to 10 that applies. The number isn't cut: permission 256 is
+ * refused by 10.
+ *
+ * All 14 bytes of sheet are written, whatever they held. Of 0 it is the
+ * unsigned sheet for the permission: its number, and 0 in every other byte. Of
+ * a refusal it is the unsigned sheet for permission 255, which no base has.
+ */
+uint32_t release_sheet_open(const uint8_t *base, size_t base_len,
+                            uint32_t permission, uint8_t *sheet);
+
+/*
+ * Takes a signature on a sheet, a user and the role acted in: 0, or the first
+ * of refusals 1 to 9, 13, 14, 15 and 20 that applies. 13 to 15 are for the new
+ * entry alone; it gets 14 if its user is on the sheet, in whatever role. A full
+ * sheet gets them before 20. Numbers aren't cut: user 256 is refused by 13. The
+ * sheet's permission isn't looked at.
+ *
+ * Of 0, the entry stands behind those that the sheet held, its number of
+ * entries is one more, and every other byte is as it was. Of a refusal every
+ * byte is.
+ */
+uint32_t release_sheet_sign(const uint8_t *base, size_t base_len,
+                            uint32_t user, uint32_t role, uint8_t *sheet);
+
+/*
+ * Asks a sheet: the answer of release_decide for its permission and the group
+ * of the entries that it holds, in their order. So an unsigned sheet is refused
+ * by 12, after 1 to 11, and the sheet of a refused opening by 10, after 1 to 9.
+ * No byte is written.
+ */
+uint32_t release_sheet_ask(const uint8_t *base, size_t base_len,
+                           uint32_t minute, uint32_t day, uint32_t zone,
+                           const uint8_t *sheet);
 
 /* The refusal in an answer of release_report or release_conflicts. */
 static inline uint32_t release_answer_refusal(uint64_t answer) {
