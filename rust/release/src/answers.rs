@@ -4,6 +4,7 @@
 use crate::context::Context;
 use crate::library;
 use crate::refusal::{result_of, Refusal};
+use crate::sheet::SHEET_BYTES;
 
 /// 0 or a refusal's number, and the number that the answer carries.
 #[derive(Clone, Copy, Debug, PartialEq, Eq, Hash)]
@@ -101,6 +102,66 @@ pub fn report(base: &[u8], at: Context, out: &mut [u8]) -> Answer {
 /// ```
 pub fn conflicts(base: &[u8], out: &mut [u8]) -> Answer {
     Answer::from_number(library::conflicts(base, out))
+}
+
+/// Opens a sheet for a permission: 0, or the first of refusals 1 to 10 that
+/// applies. All its bytes are written, whatever they held: the unsigned sheet
+/// for the permission or, if refused, for permission 255. No other refused call
+/// writes.
+///
+/// ```
+/// use release::answers;
+/// use release::example::SMALL_SHOP;
+///
+/// let mut sheet = [7; 14];
+/// assert_eq!(answers::sheet_open(&SMALL_SHOP, 0, &mut sheet), 0);
+/// assert_eq!(sheet, [0; 14]);
+///
+/// assert_eq!(answers::sheet_open(&SMALL_SHOP, 256, &mut sheet), 10);
+/// assert_eq!(sheet, [255, 0, 0, 0, 0, 0, 0, 0, 0, 0, 0, 0, 0, 0]);
+/// ```
+pub fn sheet_open(base: &[u8], permission: u32, sheet: &mut [u8; SHEET_BYTES]) -> u32 {
+    library::sheet_open(base, permission, sheet)
+}
+
+/// Takes a signature on a sheet: 0, or the first of refusals 1 to 9, 13, 14, 15
+/// and 20 that applies. 13 to 15 are for the new entry alone; it gets 14 if its
+/// user is on the sheet, in whatever role. The entry is written behind those
+/// that the sheet holds and counted; no refusal writes.
+///
+/// ```
+/// use release::answers;
+/// use release::example::SMALL_SHOP;
+///
+/// let mut sheet = [0; 14];
+/// assert_eq!(answers::sheet_sign(&SMALL_SHOP, 2, 2, &mut sheet), 0);
+/// assert_eq!(sheet, [0, 1, 2, 2, 0, 0, 0, 0, 0, 0, 0, 0, 0, 0]);
+///
+/// assert_eq!(answers::sheet_sign(&SMALL_SHOP, 256, 0, &mut sheet), 13);
+/// assert_eq!(answers::sheet_sign(&SMALL_SHOP, 2, 2, &mut sheet), 14);
+/// assert_eq!(answers::sheet_sign(&SMALL_SHOP, 3, 0, &mut sheet), 15);
+/// assert_eq!(sheet, [0, 1, 2, 2, 0, 0, 0, 0, 0, 0, 0, 0, 0, 0]);
+/// ```
+pub fn sheet_sign(base: &[u8], user: u32, role: u32, sheet: &mut [u8; SHEET_BYTES]) -> u32 {
+    library::sheet_sign(base, user, role, sheet)
+}
+
+/// Asks a sheet: the answer of [`decide`] for its permission and the group of
+/// the entries that it holds, in their order.
+///
+/// ```
+/// use release::example::SMALL_SHOP;
+/// use release::{answers, Context};
+///
+/// let at = Context::new(600, 0, 0);
+/// let signed = [0, 2, 0, 0, 2, 2, 0, 0, 0, 0, 0, 0, 0, 0];
+/// assert_eq!(answers::sheet_ask(&SMALL_SHOP, at, &signed), 0);
+///
+/// let unsigned = [0; 14];
+/// assert_eq!(answers::sheet_ask(&SMALL_SHOP, at, &unsigned), 12);
+/// ```
+pub fn sheet_ask(base: &[u8], at: Context, sheet: &[u8; SHEET_BYTES]) -> u32 {
+    library::sheet_ask(base, at, sheet)
 }
 
 #[cfg(test)]

@@ -34,6 +34,13 @@ impl Entry {
     }
 }
 
+/// The entries in these bytes, 2 each: the first ones, so many or as many as
+/// there are.
+pub(crate) fn first_entries(bytes: &[u8], count: usize) -> impl Iterator<Item = Entry> + '_ {
+    let entries = bytes.chunks_exact(2).take(count);
+    entries.map(|entry| Entry::new(entry[0], entry[1]))
+}
+
 /// Whether the group may release the permission: `Ok` if it is granted, else
 /// the first of refusals 1 to 17 that applies. The order of the entries
 /// doesn't matter.

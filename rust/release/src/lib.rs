@@ -2,7 +2,7 @@
 //! library.
 //!
 //! A policy base says who may act in which role, what each role weighs for a
-//! permission, and which groups may release it. The library answers four
+//! permission, and which groups may release it. The library answers these
 //! questions about a base, for any bytes whatever:
 //!
 //! | function | question |
@@ -11,9 +11,11 @@
 //! | [`decide`], [`decide_bytes`] | may this group release this permission? |
 //! | [`report`], [`report_into`] | which smallest group can release each permission? |
 //! | [`conflicts`], [`conflicts_into`], [`conflict_count`] | which records of the base conflict? |
+//! | [`Sheet::open`], [`Sheet::sign`], [`Sheet::ask`] | may those who have signed so far release this permission? |
 //!
 //! The answer is the result, or the first [`Refusal`] that applies. A refused
-//! call writes nothing.
+//! call writes nothing, with one exception: a refused
+//! [opening](answers::sheet_open) gives the unsigned sheet for permission 255.
 //!
 //! ```
 //! use release::example::SMALL_SHOP;
@@ -45,6 +47,7 @@ pub mod example;
 mod library;
 mod refusal;
 mod report;
+mod sheet;
 
 pub use conflicts::{conflict_count, conflicts, conflicts_into, Conflict, CONFLICT_BYTES};
 pub use context::Context;
@@ -53,6 +56,7 @@ pub use refusal::Refusal;
 pub use report::{
     permissions, report, report_into, Permission, Report, LONGEST_REPORT, PERMISSION_BYTES,
 };
+pub use sheet::{Sheet, SHEET_BYTES};
 
 /// The most bytes that a base can have.
 pub const LONGEST_BASE: usize = 2_364;

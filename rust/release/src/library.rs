@@ -1,6 +1,7 @@
 //! The library's functions. All that is unsafe in this crate stands here.
 
 use crate::context::Context;
+use crate::sheet::SHEET_BYTES;
 
 /// As in `include/release.h`.
 mod foreign {
@@ -34,6 +35,30 @@ mod foreign {
             out: *mut u8,
             out_len: usize,
         ) -> u64;
+
+        pub fn release_sheet_open(
+            base: *const u8,
+            base_len: usize,
+            permission: u32,
+            sheet: *mut u8,
+        ) -> u32;
+
+        pub fn release_sheet_sign(
+            base: *const u8,
+            base_len: usize,
+            user: u32,
+            role: u32,
+            sheet: *mut u8,
+        ) -> u32;
+
+        pub fn release_sheet_ask(
+            base: *const u8,
+            base_len: usize,
+            minute: u32,
+            day: u32,
+            zone: u32,
+            sheet: *const u8,
+        ) -> u32;
     }
 }
 
@@ -84,4 +109,37 @@ pub fn conflicts(base: &[u8], out: &mut [u8]) -> u64 {
     // overlap. The library only reads the first and writes the second within
     // its length, and only during the call.
     unsafe { foreign::release_conflicts(base.as_ptr(), base.len(), out.as_mut_ptr(), out.len()) }
+}
+
+pub fn sheet_open(base: &[u8], permission: u32, sheet: &mut [u8; SHEET_BYTES]) -> u32 {
+    // SAFETY: the first pointer and the length are those of a slice, the second
+    // pointer is that of a sheet's 14 bytes, and the two don't overlap. The
+    // library only reads the slice and writes the sheet, and only during the
+    // call.
+    unsafe {
+        foreign::release_sheet_open(base.as_ptr(), base.len(), permission, sheet.as_mut_ptr())
+    }
+}
+
+pub fn sheet_sign(base: &[u8], user: u32, role: u32, sheet: &mut [u8; SHEET_BYTES]) -> u32 {
+    // SAFETY: as for opening.
+    unsafe {
+        foreign::release_sheet_sign(base.as_ptr(), base.len(), user, role, sheet.as_mut_ptr())
+    }
+}
+
+pub fn sheet_ask(base: &[u8], at: Context, sheet: &[u8; SHEET_BYTES]) -> u32 {
+    // SAFETY: the first pointer and the length are those of a slice and the
+    // second pointer is that of a sheet's 14 bytes. The library only reads
+    // both, and only during the call.
+    unsafe {
+        foreign::release_sheet_ask(
+            base.as_ptr(),
+            base.len(),
+            at.minute,
+            at.day,
+            at.zone,
+            sheet.as_ptr(),
+        )
+    }
 }

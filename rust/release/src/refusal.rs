@@ -38,7 +38,8 @@ pub enum Refusal {
     GroupLength = 12,
     /// 13: an entry's user isn't in U, or its role isn't below R.
     NoUserOrRole = 13,
-    /// 14: a user stands in two entries.
+    /// 14: a user stands in two entries; of a signing, its user is on the
+    /// sheet.
     UserTwice = 14,
     /// 15: an entry's user doesn't hold its role.
     Membership = 15,
@@ -50,11 +51,13 @@ pub enum Refusal {
     ConflictBuffer = 18,
     /// 19: the buffer is shorter than 13 times the number of permissions.
     ReportBuffer = 19,
+    /// 20: the sheet already holds six entries.
+    SheetFull = 20,
 }
 
 impl Refusal {
     /// Every refusal, in checking order.
-    pub const ALL: [Refusal; 19] = [
+    pub const ALL: [Refusal; 20] = [
         Refusal::Length,
         Refusal::Letters,
         Refusal::Trailer,
@@ -74,9 +77,10 @@ impl Refusal {
         Refusal::Condition,
         Refusal::ConflictBuffer,
         Refusal::ReportBuffer,
+        Refusal::SheetFull,
     ];
 
-    /// The refusal's number, 1 to 19.
+    /// The refusal's number, 1 to 20.
     ///
     /// ```
     /// assert_eq!(release::Refusal::UserTwice.number(), 14);
@@ -103,7 +107,7 @@ impl Refusal {
     /// ```
     /// use release::Refusal;
     ///
-    /// assert_eq!(Refusal::UserTwice.meaning(), "a user stands in two entries");
+    /// assert_eq!(Refusal::Condition.meaning(), "the permission's condition doesn't hold");
     /// ```
     pub fn meaning(self) -> &'static str {
         match self {
@@ -132,7 +136,9 @@ impl Refusal {
             Refusal::Context => "minute, day or zone is out of range",
             Refusal::GroupLength => "the group's length is 0, odd or above 12",
             Refusal::NoUserOrRole => "the base has no user or no role of an entry's number",
-            Refusal::UserTwice => "a user stands in two entries",
+            Refusal::UserTwice => {
+                "a user stands in two entries, or a new entry's user is on the sheet"
+            }
             Refusal::Membership => "an entry's user doesn't hold its role",
             Refusal::NoWeight => "an entry's role has weight 0 for the permission",
             Refusal::Condition => "the permission's condition doesn't hold",
@@ -140,6 +146,7 @@ impl Refusal {
             Refusal::ReportBuffer => {
                 "the buffer is shorter than 13 times the number of permissions"
             }
+            Refusal::SheetFull => "the sheet already holds six entries",
         }
     }
 }
@@ -147,8 +154,8 @@ impl Refusal {
 /// The number and the meaning.
 ///
 /// ```
-/// let text = release::Refusal::UserTwice.to_string();
-/// assert_eq!(text, "refusal 14: a user stands in two entries");
+/// let text = release::Refusal::Condition.to_string();
+/// assert_eq!(text, "refusal 17: the permission's condition doesn't hold");
 /// ```
 impl fmt::Display for Refusal {
     fn fmt(&self, formatter: &mut fmt::Formatter) -> fmt::Result {
@@ -162,7 +169,7 @@ impl Error for Refusal {}
 pub(crate) fn result_of(answer: u32) -> Result<(), Refusal> {
     match answer {
         0 => Ok(()),
-        _ => Err(Refusal::from_number(answer).expect("the library answers 0 to 19")),
+        _ => Err(Refusal::from_number(answer).expect("the library answers 0 to 20")),
     }
 }
 
@@ -178,7 +185,7 @@ mod tests {
             assert_eq!(result_of(number), Err(refusal));
         }
         assert_eq!(result_of(0), Ok(()));
-        assert_eq!(Refusal::from_number(20), None);
+        assert_eq!(Refusal::from_number(21), None);
     }
 
     #[test]

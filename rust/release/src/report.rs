@@ -2,7 +2,7 @@
 
 use crate::answers;
 use crate::context::Context;
-use crate::decision::Entry;
+use crate::decision::{first_entries, Entry};
 use crate::refusal::Refusal;
 
 /// Bytes of a report for each permission.
@@ -120,8 +120,7 @@ impl Permission {
     /// # Ok::<(), release::Refusal>(())
     /// ```
     pub fn entries(&self) -> impl Iterator<Item = Entry> + '_ {
-        let entries = self.bytes[1..].chunks_exact(2).take(self.approvers());
-        entries.map(|entry| Entry::new(entry[0], entry[1]))
+        first_entries(&self.bytes[1..], self.approvers())
     }
 }
 
