@@ -1,4 +1,4 @@
-//! The way in from C and C++: the header, and the example that uses it.
+//! The way in from C and C++: the header, and the examples that use it.
 
 use std::io::Write;
 use std::path::{Path, PathBuf};
@@ -76,6 +76,18 @@ fn the_example_prints_the_small_shops_report() {
     let expected = std::fs::read_to_string(expected).expect("the program's expected output");
     assert_eq!(printed(&example, &[]), expected);
     assert_eq!(expected, "permission 0: 2 0/0 1/1\nreleasable 1\n");
+}
+
+#[test]
+fn the_example_prints_a_morning() {
+    let example = C.compile("examples/morning.c", "morning");
+    let expected = "\
+        minute 500: 0/0 signed, release refused 17\n\
+        minute 530: 0/1 refused 14, release refused 17\n\
+        minute 560: 2/1 refused 15, release refused 17\n\
+        minute 590: 2/2 signed, release granted\n\
+        permission 0: 0/0 2/2\n";
+    assert_eq!(printed(&example, &[]), expected);
 }
 
 #[test]
