@@ -1,7 +1,8 @@
 /*
  * Calls each function through the header, in C and in C++: every refusal by
- * its name, NULL with length 0, the buffers and the two parts of an answer.
- * The small shop comes in on standard input. Prints what differs, or `ok`.
+ * its name, NULL with length 0, the buffers, the sheets and the two parts of an
+ * answer. The small shop comes in on standard input. Prints what differs, or
+ * `ok`.
  */
 #include <stdio.h>
 #include <string.h>
@@ -132,8 +133,115 @@ static void conflicts(void) {
     expect("18's count", 3, release_answer_count(answer));
 }
 
+/* A sheet's bytes between guards. */
+struct guarded {
+    uint8_t before[8];
+    uint8_t sheet[RELEASE_SHEET_BYTES];
+    uint8_t after[8];
+};
+
+/* What lies there before a sheet is opened. */
+static struct guarded unopened(void) {
+    struct guarded guarded;
+    memset(&guarded, 7, sizeof guarded);
+    return guarded;
+}
+
+/* The sheet's bytes, and those beside it. */
+static void expect_sheet(const char *what, const uint8_t *expected, struct guarded found) {
+    struct guarded all = unopened();
+    memcpy(all.sheet, expected, RELEASE_SHEET_BYTES);
+    expect(what, 0, memcmp(&all, &found, sizeof all) != 0);
+}
+
+static void openings(void) {
+    const uint8_t unsigned_0[RELEASE_SHEET_BYTES] = {0};
+    const uint8_t refused[RELEASE_SHEET_BYTES] = {255};
+    struct guarded guarded = unopened();
+    expect("open", RELEASE_DONE, release_sheet_open(shop, SHOP, 0, guarded.sheet));
+    expect_sheet("an opened sheet", unsigned_0, guarded);
+    guarded = unopened();
+    expect("10", RELEASE_REFUSAL_NO_PERMISSION,
+           release_sheet_open(shop, SHOP, 256, guarded.sheet));
+    expect_sheet("a refused opening writes", refused, guarded);
+    guarded = unopened();
+    expect("2", RELEASE_REFUSAL_LETTERS,
+           release_sheet_open(shop, SHOP - 1, 0, guarded.sheet));
+    expect_sheet("a refused opening writes", refused, guarded);
+}
+
+static void signings(void) {
+    const uint8_t signed_1[RELEASE_SHEET_BYTES] = {0, 1, 0, 0};
+    const uint8_t signed_2[RELEASE_SHEET_BYTES] = {0, 2, 0, 0, 3, 2};
+    struct guarded guarded = unopened();
+    expect("open", RELEASE_DONE, release_sheet_open(shop, SHOP, 0, guarded.sheet));
+    expect("sign", RELEASE_DONE, release_sheet_sign(shop, SHOP, 0, 0, guarded.sheet));
+    expect_sheet("a signed sheet", signed_1, guarded);
+    expect("2", RELEASE_REFUSAL_LETTERS,
+           release_sheet_sign(shop, SHOP - 1, 0, 0, guarded.sheet));
+    expect("13", RELEASE_REFUSAL_NO_USER_OR_ROLE,
+           release_sheet_sign(shop, SHOP, 256, 0, guarded.sheet));
+    expect("13", RELEASE_REFUSAL_NO_USER_OR_ROLE,
+           release_sheet_sign(shop, SHOP, 0, 3, guarded.sheet));
+    expect("14", RELEASE_REFUSAL_USER_TWICE,
+           release_sheet_sign(shop, SHOP, 0, 1, guarded.sheet));
+    expect("15", RELEASE_REFUSAL_MEMBERSHIP,
+           release_sheet_sign(shop, SHOP, 3, 1, guarded.sheet));
+    expect_sheet("a refused signing writes nothing", signed_1, guarded);
+    expect("sign", RELEASE_DONE, release_sheet_sign(shop, SHOP, 3, 2, guarded.sheet));
+    expect_sheet("a sheet signed twice", signed_2, guarded);
+}
+
+/* Sheets that claim as many entries as there can be, and more, of users that
+   the shop doesn't have. */
+static void full_sheets(void) {
+    uint8_t full[RELEASE_SHEET_BYTES] = {0, 6, 9, 9, 10, 9, 11, 9, 12, 9, 13, 9, 14, 9};
+    uint8_t claimed;
+    for (claimed = RELEASE_MOST_ENTRIES; claimed <= 8; claimed++) {
+        struct guarded guarded = unopened();
+        full[RELEASE_SHEET_COUNT] = claimed;
+        memcpy(guarded.sheet, full, RELEASE_SHEET_BYTES);
+        expect("13", RELEASE_REFUSAL_NO_USER_OR_ROLE,
+               release_sheet_sign(shop, SHOP, 9, 9, guarded.sheet));
+        expect("15", RELEASE_REFUSAL_MEMBERSHIP,
+               release_sheet_sign(shop, SHOP, 1, 0, guarded.sheet));
+        expect("20", RELEASE_REFUSAL_SHEET_FULL,
+               release_sheet_sign(shop, SHOP, 1, 1, guarded.sheet));
+        expect("13", RELEASE_REFUSAL_NO_USER_OR_ROLE,
+               release_sheet_ask(shop, SHOP, 600, 0, 0, guarded.sheet));
+        expect_sheet("a full sheet", full, guarded);
+    }
+    full[RELEASE_SHEET_ENTRIES] = 1;
+    expect("14", RELEASE_REFUSAL_USER_TWICE, release_sheet_sign(shop, SHOP, 1, 0, full));
+}
+
+static uint32_t ask(uint32_t minute, const uint8_t *sheet) {
+    return release_sheet_ask(shop, SHOP, minute, 0, 0, sheet);
+}
+
+static void askings(void) {
+    const uint8_t two[RELEASE_SHEET_BYTES] = {0, 2, 0, 0, 2, 2};
+    uint8_t sheet[RELEASE_SHEET_BYTES];
+    memcpy(sheet, two, sizeof sheet);
+    expect("granted", RELEASE_DONE, ask(600, sheet));
+    expect("2", RELEASE_REFUSAL_LETTERS,
+           release_sheet_ask(shop, SHOP - 1, 600, 0, 0, sheet));
+    expect("11", RELEASE_REFUSAL_CONTEXT, ask(1440, sheet));
+    expect("11", RELEASE_REFUSAL_CONTEXT, release_sheet_ask(shop, SHOP, 0, 7, 0, sheet));
+    expect("11", RELEASE_REFUSAL_CONTEXT, release_sheet_ask(shop, SHOP, 0, 0, 256, sheet));
+    expect("16", RELEASE_REFUSAL_NO_WEIGHT, ask(480, sheet));
+    sheet[RELEASE_SHEET_COUNT] = 1;
+    expect("17", RELEASE_REFUSAL_CONDITION, ask(600, sheet));
+    sheet[RELEASE_SHEET_COUNT] = 0;
+    expect("12", RELEASE_REFUSAL_GROUP_LENGTH, ask(600, sheet));
+    sheet[RELEASE_SHEET_PERMISSION] = 255;
+    expect("10", RELEASE_REFUSAL_NO_PERMISSION, ask(1440, sheet));
+    expect("the base as a sheet: user 1 as role 2", 15, ask(600, shop));
+}
+
 static void nulls(void) {
     uint8_t out[RELEASE_PERMISSION_BYTES];
+    uint8_t sheet[RELEASE_SHEET_BYTES] = {0};
     uint8_t least[RELEASE_SHORTEST_BASE];
     memset(least, 0, sizeof least);
     least[28] = 1;
@@ -144,6 +252,10 @@ static void nulls(void) {
     expect("no base", 1, release_report(NULL, 0, 480, 0, 0, NULL, 0));
     expect("no base", 1, release_conflicts(NULL, 0, out, sizeof out));
     expect("no base", 1, release_conflicts(NULL, 0, NULL, 0));
+    expect("no base", 1, release_sheet_sign(NULL, 0, 0, 0, sheet));
+    expect("no base", 1, release_sheet_ask(NULL, 0, 480, 0, 0, sheet));
+    expect("no base", 1, release_sheet_open(NULL, 0, 0, sheet));
+    expect("permission 255", 255, sheet[RELEASE_SHEET_PERMISSION]);
     expect("no group", 12, release_decide(shop, SHOP, 0, 480, 0, 0, NULL, 0));
     expect("no buffer", 19, release_report(shop, SHOP, 480, 0, 0, NULL, 0));
     expect("no permission, no buffer", 0,
@@ -151,12 +263,13 @@ static void nulls(void) {
     expect("no conflict, no buffer", 0, release_conflicts(shop, SHOP, NULL, 0));
 }
 
-/* Bases, groups and buffers that start anywhere. */
+/* Bases, groups, buffers and sheets that start anywhere. */
 static void unaligned(void) {
     const uint8_t two[] = {0, 0, 1, 1};
     uint8_t base[SHOP + 8];
     uint8_t group[4 + 8];
     uint8_t out[RELEASE_PERMISSION_BYTES + 8];
+    uint8_t sheet[RELEASE_SHEET_BYTES + 8];
     size_t at;
     for (at = 0; at < 8; at++) {
         memcpy(base + at, shop, SHOP);
@@ -168,6 +281,10 @@ static void unaligned(void) {
                release_report(base + at, SHOP, 480, 0, 0, out + at, RELEASE_PERMISSION_BYTES));
         expect("approvers", 2, out[at]);
         expect("conflicts", 0, release_conflicts(base + at, SHOP, out + at, 3));
+        expect("open", 0, release_sheet_open(base + at, SHOP, 0, sheet + at));
+        expect("sign", 0, release_sheet_sign(base + at, SHOP, 0, 0, sheet + at));
+        expect("sign", 0, release_sheet_sign(base + at, SHOP, 1, 1, sheet + at));
+        expect("ask", 0, release_sheet_ask(base + at, SHOP, 480, 0, 0, sheet + at));
     }
 }
 
@@ -181,6 +298,10 @@ int main(void) {
     decisions();
     reports();
     conflicts();
+    openings();
+    signings();
+    full_sheets();
+    askings();
     nulls();
     unaligned();
     if (differences == 0) {

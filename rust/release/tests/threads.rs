@@ -3,7 +3,7 @@
 use std::thread::{self, Builder};
 
 use release::example::SMALL_SHOP;
-use release::{check, conflicts_into, decide_bytes, report, Context, Refusal};
+use release::{check, conflicts_into, decide_bytes, report, Context, Entry, Refusal, Sheet};
 
 const EARLY: Context = Context {
     minute: 480,
@@ -23,6 +23,14 @@ fn out_of_reach() -> [u8; 114] {
     let mut shop = SMALL_SHOP;
     shop[29] = 255;
     shop
+}
+
+/// A sheet for permission 0 that the manager and the buyer have signed.
+fn signed_sheet(base: &[u8]) -> Result<Sheet, Refusal> {
+    let mut sheet = Sheet::open(base, 0)?;
+    sheet.sign(base, Entry::new(0, 0))?;
+    sheet.sign(base, Entry::new(1, 1))?;
+    Ok(sheet)
 }
 
 /// How many permissions can be released early.
@@ -52,6 +60,9 @@ fn every_other_call_in_32_kib() {
     assert_eq!(decided, Err(Refusal::Condition));
     let listed = within(LITTLE, || conflicts_into(&SMALL_SHOP, &mut [0; 9]));
     assert_eq!(listed, Ok(0));
+    let sheet = within(LITTLE, || signed_sheet(&out_of_reach())).expect("it is signed");
+    let asked = within(LITTLE, move || sheet.ask(&out_of_reach(), EARLY));
+    assert_eq!(asked, Err(Refusal::Condition));
 }
 
 #[test]
@@ -62,6 +73,22 @@ fn many_at_once() {
                 let (base, count) = [(SMALL_SHOP, 1), (out_of_reach(), 0)][turn % 2];
                 for _ in 0..200 {
                     assert_eq!(releasable(&base), Ok(count));
+                }
+            });
+        }
+    });
+}
+
+/// Each asks the same sheet and signs one of its own.
+#[test]
+fn many_sheets_at_once() {
+    let shared = signed_sheet(&SMALL_SHOP).expect("it is signed");
+    thread::scope(|scope| {
+        for _ in 0..8 {
+            scope.spawn(|| {
+                for _ in 0..200 {
+                    assert_eq!(shared.ask(&SMALL_SHOP, EARLY), Ok(()));
+                    assert_eq!(signed_sheet(&SMALL_SHOP).as_ref(), Ok(&shared));
                 }
             });
         }
