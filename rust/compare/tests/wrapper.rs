@@ -1,6 +1,6 @@
 //! The wrapper's typed functions say what the library's own answers say.
 
-use compare::builder::BaseBuilder;
+use compare::builder::{BaseBuilder, User};
 use compare::cases::*;
 use compare::clashing::clashing_base;
 use compare::questions::{at_minute, Asked};
@@ -9,7 +9,7 @@ use compare::shop::small_shop;
 use compare::{library_context, permission_count};
 use release::answers::{self, Answer};
 use release::example::SMALL_SHOP;
-use release::{Context, Entry, Permission, Refusal, Report};
+use release::{Context, Entry, Permission, Refusal, Report, Sheet, SHEET_BYTES};
 
 /// A result's refusal as a number, 0 for none.
 fn number<T>(result: &Result<T, Refusal>) -> u32 {
@@ -83,12 +83,97 @@ fn expect_conflicts(base: &[u8]) {
     }
 }
 
+/// A sheet in the wrapper's hands, and the bytes that the library's own calls
+/// get.
+struct SheetTwice {
+    sheet: Sheet,
+    bytes: [u8; SHEET_BYTES],
+}
+
+impl SheetTwice {
+    /// A refused opening's sheet is in the bytes alone: both go on with these.
+    fn open(base: &[u8], permission: u32) -> SheetTwice {
+        let mut bytes = [7; SHEET_BYTES];
+        let expected = answers::sheet_open(base, permission, &mut bytes);
+        let opened = Sheet::open(base, permission);
+        assert_eq!(number(&opened), expected);
+        let sheet = opened.unwrap_or(Sheet::from_bytes(bytes));
+        SheetTwice { sheet, bytes }
+    }
+
+    fn from_bytes(bytes: [u8; SHEET_BYTES]) -> SheetTwice {
+        let sheet = Sheet::from_bytes(bytes);
+        SheetTwice { sheet, bytes }
+    }
+
+    /// The same answer, whether the signature comes as an entry or as numbers.
+    fn sign(&mut self, base: &[u8], entry: Entry) {
+        let (user, role) = (entry.user.into(), entry.role.into());
+        let expected = answers::sheet_sign(base, user, role, &mut self.bytes);
+        let mut by_numbers = self.sheet.clone();
+        let signed = by_numbers.sign_numbers(base, user, role);
+        assert_eq!(number(&signed), expected);
+        assert_eq!(number(&self.sheet.sign(base, entry)), expected);
+        assert_eq!(by_numbers, self.sheet);
+    }
+
+    /// Numbers of more than a byte.
+    fn sign_beyond(&mut self, base: &[u8], entry: Entry) {
+        let (user, role) = (entry.user.into(), entry.role.into());
+        for (user, role) in [(256 + user, role), (user, 256 + role)] {
+            let expected = answers::sheet_sign(base, user, role, &mut self.bytes);
+            let signed = self.sheet.sign_numbers(base, user, role);
+            assert_eq!(number(&signed), expected);
+        }
+    }
+
+    /// The same bytes, and what the wrapper reads in them.
+    fn expect_same(&self) {
+        assert_eq!(self.sheet.to_bytes(), self.bytes);
+        assert_eq!(self.sheet.permission(), self.bytes[0]);
+        let held = usize::from(self.bytes[1]).min(6);
+        let entries: Vec<u8> = self.sheet.entries().flat_map(Entry::bytes).collect();
+        assert_eq!(entries, self.bytes[2..2 + 2 * held]);
+    }
+
+    fn expect_asked(&self, base: &[u8], at: Context) {
+        let asked = self.sheet.ask(base, at);
+        assert_eq!(number(&asked), answers::sheet_ask(base, at, &self.bytes));
+    }
+}
+
+/// The group's entries sign one by one; of a long one the first 20.
+fn expect_signings(base: &[u8], at: Context, mut sheet: SheetTwice, group: &[u8]) {
+    sheet.expect_same();
+    sheet.expect_asked(base, at);
+    for pair in group.chunks_exact(2).take(20) {
+        let entry = Entry::new(pair[0], pair[1]);
+        sheet.sign_beyond(base, entry);
+        sheet.sign(base, entry);
+        sheet.expect_same();
+        sheet.expect_asked(base, at);
+    }
+}
+
+/// The group signs a new sheet for the permission, and one made of its bytes.
+fn expect_sheets(base: &[u8], at: Context, asked: &Asked) {
+    let opened = SheetTwice::open(base, asked.permission);
+    expect_signings(base, at, opened, &asked.group);
+    let mut bytes = [0; SHEET_BYTES];
+    for (byte, of_group) in bytes.iter_mut().zip(&asked.group) {
+        *byte = *of_group;
+    }
+    let made = SheetTwice::from_bytes(bytes);
+    expect_signings(base, at, made, &asked.group);
+}
+
 fn expect_all(base: &[u8], asked: &Asked) {
     let at = library_context(asked.at);
     expect_check(base);
     expect_decision(base, at, asked);
     expect_report(base, at);
     expect_conflicts(base);
+    expect_sheets(base, at, asked);
 }
 
 #[test]
@@ -109,6 +194,17 @@ fn many_conflicts() {
     let mut random = Random::new(86);
     let bases = std::iter::repeat_with(|| clashing_base(&mut random).bytes());
     bases.take(1_000).for_each(|base| expect_conflicts(&base));
+}
+
+/// Eight clerks sign: the last two find the sheet full.
+#[test]
+fn a_full_sheet() {
+    let shop = BaseBuilder {
+        users: [7; 8].map(|parameter| User { parameter }).to_vec(),
+        ..small_shop()
+    };
+    let clerks: Vec<[u8; 2]> = (0..8).map(|user| [user, 2]).collect();
+    expect_all(&shop.bytes(), &Asked::new(0, at_minute(600), &clerks));
 }
 
 #[test]
