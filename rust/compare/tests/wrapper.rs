@@ -136,9 +136,13 @@ impl SheetTwice {
         assert_eq!(entries, self.bytes[2..2 + 2 * held]);
     }
 
+    /// The same answer, and that of the decision.
     fn expect_asked(&self, base: &[u8], at: Context) {
         let asked = self.sheet.ask(base, at);
         assert_eq!(number(&asked), answers::sheet_ask(base, at, &self.bytes));
+        let group: Vec<Entry> = self.sheet.entries().collect();
+        let permission = self.sheet.permission().into();
+        assert_eq!(asked, release::decide(base, permission, at, &group));
     }
 }
 
