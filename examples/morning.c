@@ -37,7 +37,7 @@ static void print_answer(const char *done, uint32_t answer) {
 
 static void print_sheet(const uint8_t *sheet) {
     printf("permission %u:", (unsigned)sheet[RELEASE_SHEET_PERMISSION]);
-    for (unsigned i = 0; i < sheet[RELEASE_SHEET_COUNT]; i++) {
+    for (unsigned i = 0; i < sheet[RELEASE_SHEET_COUNT] && i < RELEASE_MOST_ENTRIES; i++) {
         const uint8_t *entry = sheet + RELEASE_SHEET_ENTRIES + RELEASE_ENTRY_BYTES * i;
         printf(" %u/%u", (unsigned)entry[0], (unsigned)entry[1]);
     }

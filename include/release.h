@@ -61,7 +61,7 @@
 
 /* A sheet has 14 bytes: at 0 its permission, at 1 the number of its entries,
    from 2 on six entries of 2 bytes: user, role. It holds the first of them, as
-   many as its number says; one that says more than six holds six. */
+   many as byte 1 says; where that is above six, it holds six. */
 #define RELEASE_SHEET_BYTES 14
 #define RELEASE_SHEET_PERMISSION 0
 #define RELEASE_SHEET_COUNT 1
