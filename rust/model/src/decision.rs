@@ -109,7 +109,7 @@ impl<'a> Question<'a> {
 
 impl Base {
     /// The permission with this number, if it is in P.
-    fn permission(&self, number: u32) -> Option<u8> {
+    pub fn permission(&self, number: u32) -> Option<u8> {
         let number = u8::try_from(number).ok()?;
         (usize::from(number) < self.permissions.len()).then_some(number)
     }

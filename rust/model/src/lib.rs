@@ -25,6 +25,8 @@ mod roles;
 #[cfg(test)]
 mod samples;
 mod seniority;
+mod sheet;
+mod signings;
 mod smallest;
 mod weight;
 
@@ -47,5 +49,9 @@ pub use release_list::{lines, render};
 pub use report::{report, report_by};
 pub use roles::{Role, RoleSet};
 pub use seniority::Seniority;
+pub use sheet::{
+    sheet_ask, sheet_ask_by, sheet_open, sheet_open_by, sheet_sign, sheet_sign_by, Sheet,
+};
+pub use signings::{accepted, sheet_holding, Signing};
 pub use smallest::{smallest_by_reach, smallest_by_trial, smallest_group};
 pub use weight::Situation;

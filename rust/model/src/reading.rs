@@ -1,8 +1,8 @@
 //! How the rules are read.
 
 /// The paper's reading, or a wrong one: those that it warns of, and some of the
-/// conflict list. A test can take a wrong one to show that the comparison
-/// notices it.
+/// conflict list and of sheets. A test can take a wrong one to show that the
+/// comparison notices it.
 #[derive(Clone, Copy, Debug, Default, PartialEq, Eq)]
 pub enum Reading {
     #[default]
@@ -27,6 +27,16 @@ pub enum Reading {
     RelatedToItself,
     /// A policy of type 0 covers the seniors of its role too.
     SeniorsCovered,
+    /// A refused opening gives a sheet for the permission asked for.
+    PermissionKept,
+    /// Signing checks that the sheet's permission is there.
+    PermissionAtSigning,
+    /// A full sheet refuses before the new entry is looked at.
+    FullFirst,
+    /// A user may sign again in another role.
+    AnotherRole,
+    /// A sheet that claims over six entries holds none.
+    OverSixAsNone,
 }
 
 impl Reading {
@@ -45,6 +55,15 @@ impl Reading {
         Reading::WeightAndType,
         Reading::RelatedToItself,
         Reading::SeniorsCovered,
+    ];
+
+    /// Wrong readings that only sheets show.
+    pub const WRONG_ON_SHEETS: [Reading; 5] = [
+        Reading::PermissionKept,
+        Reading::PermissionAtSigning,
+        Reading::FullFirst,
+        Reading::AnotherRole,
+        Reading::OverSixAsNone,
     ];
 }
 

@@ -22,6 +22,7 @@ pub enum Refusal {
     Condition = 17,
     ConflictBuffer = 18,
     ReportBuffer = 19,
+    SheetFull = 20,
 }
 
 impl Refusal {

@@ -34,6 +34,15 @@ pub fn small_shop() -> Base {
     Base::read(&SMALL_SHOP).expect("the small shop passes")
 }
 
+/// A base of three roles, one permission and eight users with these
+/// parameters.
+pub fn eight_users(parameters: [u32; 8]) -> Vec<u8> {
+    let places: [u16; 14] = [0, 0, 0, 8, 32, 1, 34, 0, 34, 0, 34, 0, 34, 0];
+    let tables = [&parameters.map(u32::to_le_bytes).concat()[..], &[1, 1]].concat();
+    let places = places.map(u16::to_le_bytes).concat();
+    [&tables[..], &places, &[3, 0, 0, 0], b"LCAP"].concat()
+}
+
 /// A base without records.
 pub fn empty_base(roles: u8) -> Base {
     Base {

@@ -62,6 +62,11 @@ fn shows(reading: Reading) -> [bool; 3] {
         Reading::WeightAndType | Reading::RelatedToItself | Reading::SeniorsCovered => {
             [false, false, true]
         }
+        Reading::PermissionKept
+        | Reading::PermissionAtSigning
+        | Reading::FullFirst
+        | Reading::AnotherRole
+        | Reading::OverSixAsNone => [false, false, false],
     }
 }
 
