@@ -1,5 +1,7 @@
 //! Buffers to lend, full of noise and between guard bytes.
 
+use model::Sheet;
+
 use crate::random::Random;
 
 /// So many bytes on either side of the buffer.
@@ -33,6 +35,11 @@ impl Lent {
     pub fn buffer(&mut self) -> &mut [u8] {
         let end = GUARD + self.length();
         &mut self.memory[GUARD..end]
+    }
+
+    /// The buffer as a sheet: it has 14 bytes.
+    pub fn sheet(&mut self) -> &mut Sheet {
+        self.buffer().try_into().expect("the buffer has 14 bytes")
     }
 
     /// The first place where two of equal length differ, counted from the

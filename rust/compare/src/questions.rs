@@ -120,7 +120,7 @@ pub(crate) fn sound_group(random: &mut Random, question: &Question) -> Vec<[u8; 
 
 /// A smallest group, as it is or with one entry more, less or changed. A sound
 /// group if there is none.
-fn near_smallest(random: &mut Random, question: &Question) -> Vec<[u8; 2]> {
+pub(crate) fn near_smallest(random: &mut Random, question: &Question) -> Vec<[u8; 2]> {
     let sound = sound_group(random, question);
     let Some(smallest) = model::smallest_group(question) else {
         return sound;
