@@ -1,4 +1,4 @@
-//! Compares the four calls on many random bases, sound and damaged, and shows
+//! Compares the calls on many random bases, sound and damaged, and shows
 //! that each wrong reading of the rules would be noticed.
 
 mod checks;
@@ -7,6 +7,7 @@ mod decisions;
 mod readings;
 mod reports;
 mod seen;
+mod sheets;
 
 use std::time::{Duration, Instant};
 
@@ -23,6 +24,7 @@ fn seeded_comparison() {
     decisions::compare(&mut seen);
     reports::compare(&mut seen);
     conflicts::compare(&mut seen);
+    sheets::compare(&mut seen);
     let taken = start.elapsed();
     seen.print(taken);
     seen.expect_all();

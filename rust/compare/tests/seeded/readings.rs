@@ -3,11 +3,12 @@
 
 use compare::lent::Lent;
 use compare::questions::context_in_range;
+use compare::sheets::SheetCall;
 use compare::shown::{numbers, RECORD};
 use compare::{library_context, library_decision};
-use model::Reading;
+use model::{Reading, Sheet};
 
-use crate::{conflicts, decisions, reports};
+use crate::{conflicts, decisions, reports, sheets};
 
 /// In how many cases the library's decision isn't the model's by a reading.
 fn decisions_that_differ(reading: Reading) -> usize {
@@ -49,36 +50,60 @@ fn lists_that_differ(reading: Reading) -> usize {
     found
 }
 
-/// In which calls a reading shows: decision, report and conflict list.
-fn shows(reading: Reading) -> [bool; 3] {
+/// How many openings, signings and askings of a sheet have another answer, or
+/// leave another sheet, by the library than by the model's reading.
+fn sheets_that_differ(reading: Reading) -> [usize; 3] {
+    let mut found = [0; 3];
+    let mut compare = |base: &[u8], call: SheetCall, sheet: &mut Sheet| {
+        let mut by_model = *sheet;
+        let answer = call.by_model(reading, base, &mut by_model);
+        let by_library = call.by_library(base, sheet);
+        let differs = by_library != u32::from(answer) || *sheet != by_model;
+        found[call.kind()] += usize::from(differs);
+    };
+    sheets::mornings(500, |_, morning| {
+        let mut sheet = [7; 14];
+        for (place, call) in &morning.calls {
+            compare(&morning.bases[*place], *call, &mut sheet);
+        }
+    });
+    sheets::any_sheets(300, |_, base, call, mut sheet| {
+        compare(base, call, &mut sheet);
+    });
+    found
+}
+
+/// The calls in which a reading shows.
+fn shows(reading: Reading) -> &'static [&'static str] {
     match reading {
-        Reading::Paper => [false, false, false],
+        Reading::Paper => &[],
         Reading::JuniorPerChain
         | Reading::OwnTwice
         | Reading::EntriesAsRoles
-        | Reading::MixedGroupClauses => [true, true, false],
-        Reading::HeaviestUsers => [false, true, false],
-        Reading::MixedContextClauses => [true, true, true],
-        Reading::WeightAndType | Reading::RelatedToItself | Reading::SeniorsCovered => {
-            [false, false, true]
-        }
-        Reading::PermissionKept
-        | Reading::PermissionAtSigning
-        | Reading::FullFirst
-        | Reading::AnotherRole
-        | Reading::OverSixAsNone => [false, false, false],
+        | Reading::MixedGroupClauses => &["decisions", "reports", "askings"],
+        Reading::HeaviestUsers => &["reports"],
+        Reading::MixedContextClauses => &["decisions", "reports", "lists", "askings"],
+        Reading::WeightAndType | Reading::RelatedToItself | Reading::SeniorsCovered => &["lists"],
+        Reading::PermissionKept => &["openings"],
+        Reading::PermissionAtSigning | Reading::FullFirst | Reading::AnotherRole => &["signings"],
+        Reading::OverSixAsNone => &["signings", "askings"],
     }
 }
 
 fn expect(reading: Reading) {
+    let [openings, signings, askings] = sheets_that_differ(reading);
     let found = [
-        decisions_that_differ(reading),
-        reports_that_differ(reading),
-        lists_that_differ(reading),
+        ("decisions", decisions_that_differ(reading)),
+        ("reports", reports_that_differ(reading)),
+        ("lists", lists_that_differ(reading)),
+        ("openings", openings),
+        ("signings", signings),
+        ("askings", askings),
     ];
-    let [decisions, reports, lists] = found;
-    println!("{reading:?}: {decisions} decisions, {reports} reports, {lists} lists");
-    assert_eq!(found.map(|count| count > 0), shows(reading), "{reading:?}");
+    println!("{reading:?}: {found:?}");
+    let found = found.iter().filter(|(_, count)| *count > 0);
+    let found: Vec<&str> = found.map(|(name, _)| *name).collect();
+    assert_eq!(found, shows(reading), "{reading:?}");
 }
 
 #[test]
@@ -90,4 +115,5 @@ fn the_papers_reading_has_no_disagreement() {
 fn every_wrong_reading_is_noticed() {
     Reading::WRONG.into_iter().for_each(expect);
     Reading::WRONG_IN_LISTS.into_iter().for_each(expect);
+    Reading::WRONG_ON_SHEETS.into_iter().for_each(expect);
 }

@@ -1,4 +1,5 @@
-//! How often each answer, number of approvers and kind of conflict was seen.
+//! How often each answer, number of approvers, kind of conflict and number of
+//! signatures was seen.
 
 use std::io::Write;
 use std::time::Duration;
@@ -12,30 +13,52 @@ pub enum Call {
     Decide,
     Report,
     Conflicts,
+    Open,
+    Sign,
+    Ask,
 }
 
-const NAMES: [&str; 4] = ["check", "decide", "report", "conflicts"];
+const CALLS: usize = 7;
+
+const NAMES: [&str; CALLS] = [
+    "check",
+    "decide",
+    "report",
+    "conflicts",
+    "open",
+    "sign",
+    "ask",
+];
 
 /// The answers that each call can give.
-const ANSWERS: [&[u8]; 4] = [
+const ANSWERS: [&[u8]; CALLS] = [
     &[0, 1, 2, 3, 4, 5, 6, 7, 8, 9],
     &[0, 1, 2, 3, 4, 5, 6, 7, 8, 9, 10, 11, 12, 13, 14, 15, 16, 17],
     &[0, 1, 2, 3, 4, 5, 6, 7, 8, 9, 11, 19],
     &[0, 1, 2, 3, 4, 5, 6, 7, 8, 9, 18],
+    &[0, 1, 2, 3, 4, 5, 6, 7, 8, 9, 10],
+    &[0, 1, 2, 3, 4, 5, 6, 7, 8, 9, 13, 14, 15, 20],
+    &[0, 1, 2, 3, 4, 5, 6, 7, 8, 9, 10, 11, 12, 13, 14, 15, 16, 17],
 ];
+
+/// Those that a sheet can get that openings and signings made: no user signs
+/// it twice.
+const ANSWERS_TO_MADE: &[u8] = &[0, 1, 2, 3, 4, 5, 6, 7, 8, 9, 10, 11, 12, 13, 15, 16, 17];
 
 const NUMBERS: &[u8] = &[0, 1, 2, 3, 4, 5, 6];
 const KINDS: &[u8] = &[1, 2, 3];
 
-/// The fewest cases of each call: 200,000 and more in all.
-const FEWEST: [usize; 4] = [100_000, 150_000, 20_000, 40_000];
+/// The fewest cases of each call: 500,000 and more in all.
+const FEWEST: [usize; CALLS] = [100_000, 150_000, 20_000, 40_000, 20_000, 100_000, 100_000];
 
 #[derive(Default)]
 pub struct Seen {
-    answers: [Tally<20>; 4],
+    answers: [Tally<21>; CALLS],
     numbers: Tally<7>,
     kinds: Tally<4>,
     most_conflicts: u32,
+    answers_to_made: Tally<18>,
+    signatures: Tally<7>,
 }
 
 impl Seen {
@@ -56,6 +79,12 @@ impl Seen {
         self.most_conflicts = self.most_conflicts.max(list.len() as u32 / 3);
     }
 
+    /// Notes the answer to a sheet that calls made, with so many signatures.
+    pub fn made(&mut self, answer: u8, signatures: usize) {
+        self.answers_to_made.add(answer);
+        self.signatures.add(signatures as u8);
+    }
+
     fn cases(&self) -> usize {
         self.answers.iter().map(Tally::total).sum()
     }
@@ -63,13 +92,15 @@ impl Seen {
     /// Prints all of it, also where the tests' output is kept back.
     pub fn print(&self, taken: Duration) {
         let head = line("answer", NAMES.map(str::to_string), "in all");
-        let answers = (0..20).map(|answer| {
+        let answers = (0..21).map(|answer| {
             let seen = self.answers.each_ref().map(|tally| tally.seen(answer));
             row(&answer.to_string(), seen)
         });
         let totals = row("in all", self.answers.each_ref().map(Tally::total));
         let numbers = NUMBERS.iter().map(|k| counted("k =", &self.numbers, *k));
         let kinds = KINDS.iter().map(|kind| counted("kind", &self.kinds, *kind));
+        let signed = NUMBERS.iter();
+        let signed = signed.map(|number| counted("signatures:", &self.signatures, *number));
         let last = format!(
             "{} cases in {:.1} seconds, at most {} conflicts in one list",
             self.cases(),
@@ -81,6 +112,7 @@ impl Seen {
             .chain([totals])
             .chain(numbers)
             .chain(kinds)
+            .chain(signed)
             .chain([last])
             .collect();
         let text = format!("\n{}\n", lines.join("\n"));
@@ -90,7 +122,7 @@ impl Seen {
 
     /// Asserts that there were enough cases, and everything among them.
     pub fn expect_all(&self) {
-        for call in 0..4 {
+        for call in 0..CALLS {
             let (tally, name) = (&self.answers[call], NAMES[call]);
             tally.expect_exactly(&format!("{name}: answer"), ANSWERS[call]);
             assert!(tally.total() >= FEWEST[call], "{name}: too few cases");
@@ -98,16 +130,19 @@ impl Seen {
         self.numbers.expect_exactly("k =", NUMBERS);
         self.kinds.expect_exactly("kind", KINDS);
         assert!(self.most_conflicts > 1_000, "no long list");
+        self.answers_to_made
+            .expect_exactly("a sheet that calls made: answer", ANSWERS_TO_MADE);
+        self.signatures.expect_exactly("signatures:", NUMBERS);
     }
 }
 
-/// A line of the table: a name, the four calls and their sum.
-fn line(name: &str, calls: [String; 4], all: &str) -> String {
-    let [check, decide, report, conflicts] = calls;
-    format!("{name:>6} {check:>9} {decide:>9} {report:>9} {conflicts:>9} {all:>9}")
+/// A line of the table: a name, the calls and their sum.
+fn line(name: &str, calls: [String; CALLS], all: &str) -> String {
+    let calls = calls.map(|call| format!("{call:>9}")).join(" ");
+    format!("{name:>6} {calls} {all:>9}")
 }
 
-fn row(name: &str, seen: [usize; 4]) -> String {
+fn row(name: &str, seen: [usize; CALLS]) -> String {
     let all: usize = seen.iter().sum();
     line(name, seen.map(|count| count.to_string()), &all.to_string())
 }
