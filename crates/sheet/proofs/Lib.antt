@@ -3,3 +3,4 @@ pub mod Bytes
 pub mod Holding
 pub mod Making
 pub mod Passing
+pub mod Standing

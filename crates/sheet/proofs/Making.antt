@@ -17,8 +17,8 @@ use Rattle.sheet.specs.declared.Sheet.{Sheet}
 use Rattle.sheet.specs.Sheets.{heldOn, unsigned, openRefusal, opened, signed, asked}
 use Rattle.sheet.specs.Signings.{Signing, acceptable, accepted, entriesOf, sheetWith, afterAll, answeredDone}
 use Rattle.sheet.specs.Signings.{Made, Orderly}
-use Rattle.sheet.proofs.Accepting.{entries-length, entries-count, held-with, done-acceptable}
-use Rattle.sheet.proofs.Accepting.{all-held, all-done, all-few, all-differ, Differ}
+use Rattle.sheet.proofs.Standing.{entries-length, entries-count, held-with}
+use Rattle.sheet.proofs.Accepting.{done-acceptable, all-held, all-done, all-few, all-differ, Differ}
 
 -- a new sheet holds nothing: the one for the permission where the opening is done, else the one for permission 255
 module _ (b : List ℕ) (p : ℕ) where
@@ -144,6 +144,7 @@ pub made-asked : (s : Sheet) (m : Made s) (b : List ℕ) (at : Context) →
 unfolding sheetWith
 made-asked s m b at =
     let held = ap heldOn (m .is) ∙ held-accepted (m .base) (m .permission) (m .signings) in
-    let permission = ap (λ (t : Sheet). t .permission) (m .is ∙ sheet-accepted (m .base) (m .permission) (m .signings)) in
+    let is = m .is ∙ sheet-accepted (m .base) (m .permission) (m .signings) in
+    let permission = ap (λ (t : Sheet). t .permission) is in
     ap (λ (g : List ℕ). decisionOf b at (s .permission) g) held
     ∙ ap (λ (p : ℕ). decisionOf b at p (entriesOf (accepted (m .signings)))) permission

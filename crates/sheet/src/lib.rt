@@ -1,8 +1,8 @@
 // A sheet that collects signatures for one permission: opened, signed one by one against a base, and asked.
 use weights::Context;
 ghost use mathlib.Core.Path.{_≡_};
-ghost use Prim.Native.Nat.{_*_, _<_};
-ghost use Rattle.sheet.specs.Sheets.{opened, signed, asked, withEntry};
+ghost use Prim.Native.Nat.{_<_};
+ghost use Rattle.sheet.specs.Sheets.{unsigned, opened, signed, asked, withEntry};
 
 pub mod entries;
 pub mod form;
@@ -28,18 +28,18 @@ pub fn open(base: &[u8], permission: u32) -> Outcome
     if refused != 0 {
         return Outcome {
             refusal: refused,
-            sheet: unsigned(255),
+            sheet: unsigned_for(255),
         };
     }
     if reader::trailer::permission_count(base) as u32 <= permission {
         return Outcome {
             refusal: 10,
-            sheet: unsigned(255),
+            sheet: unsigned_for(255),
         };
     }
     Outcome {
         refusal: 0,
-        sheet: unsigned(permission as u8),
+        sheet: unsigned_for(permission as u8),
     }
 }
 
@@ -75,8 +75,8 @@ pub fn ask(base: &[u8], s: Sheet, at: Context) -> u8
     )
 }
 
-fn unsigned(permission: u8) -> Sheet
-    ensures { λ r. ⌜ r ≡ Rattle.sheet.specs.Sheets.unsigned permission ⌝ }
+fn unsigned_for(permission: u8) -> Sheet
+    ensures { λ r. ⌜ r ≡ unsigned permission ⌝ }
 {
     Sheet {
         permission,

@@ -9,7 +9,8 @@ use Rattle.sheet.specs.Sheets.{asked}
 use Rattle.exports.proofs.release_sheet_ask.Statement.{statement}
 use Rattle.exports.proofs.release_sheet_ask.Tie as tie
 
-of-sheet : (b : List ℕ) (at : Context) {answer : ℕ} {s t : Sheet} → s ≡ t → answer ≡ asked b s at → answer ≡ asked b t at
+of-sheet : (b : List ℕ) (at : Context) {answer : ℕ} {s t : Sheet} → s ≡ t → answer ≡ asked b s at →
+    answer ≡ asked b t at
 of-sheet b at e h = h ∙ ap (λ (s : Sheet). asked b s at) e
 
 read-requires : tie.Need-read-requires

@@ -46,13 +46,13 @@ past9 c = record { start = at-check (c .before); ok = sym (c .before .check .ens
 check-requires : tie.Need-check-requires
 check-requires c κs = search needs
 
-unsigned-requires : tie.Need-unsigned-requires
-unsigned-requires c κs = search needs
+unsigned-for-requires : tie.Need-unsigned-for-requires
+unsigned-for-requires c κs = search needs
 
 returns : tie.Need-returns
 returns c =
     let t = c .before in
-    by-base _ _ (t .before .check .ensures) (t .if1 .taken) (c .unsigned .ensures)
+    by-base _ _ (t .before .check .ensures) (t .if1 .taken) (c .unsigned-for .ensures)
 
 permission-count-requires : tie.Need-permission-count-requires
 permission-count-requires c κs = accepted-frame _ (past9 c .ok)
@@ -60,42 +60,42 @@ permission-count-requires c κs = accepted-frame _ (past9 c .ok)
 cast-if2 : tie.Need-cast-if2
 cast-if2 c = search needs
 
-unsigned-requires-2 : tie.Need-unsigned-requires-2
-unsigned-requires-2 c κs = search needs
+unsigned-for-requires-2 : tie.Need-unsigned-for-requires-2
+unsigned-for-requires-2 c κs = search needs
 
 returns-2 : tie.Need-returns-2
 returns-2 c =
     let t = c .before in
     by-permission _ _ (past9 (t .before .before) .ok) (t .before .permission-count .ensures) (t .if2 .taken)
-    (c .unsigned2 .ensures)
+    (c .unsigned-for2 .ensures)
 
-cast-unsigned : tie.Need-cast-unsigned
-cast-unsigned c =
+cast-unsigned-for : tie.Need-cast-unsigned-for
+cast-unsigned-for c =
     let few = permissions-le _ (accepted-frame _ (past9 (c .before .before) .ok)) in
     let n = c .before .permission-count .ensures in
     let l = c .if2 .left in
     omega arith
 
-unsigned-requires-3 : tie.Need-unsigned-requires-3
-unsigned-requires-3 c κs = search needs
+unsigned-for-requires-3 : tie.Need-unsigned-for-requires-3
+unsigned-for-requires-3 c κs = search needs
 
 returns-3 : tie.Need-returns-3
 returns-3 c =
     let t = c .before in
     done _ _ (past9 (t .before .before) .ok) (t .before .permission-count .ensures) (t .if2 .left)
-    (c .unsigned3 .ensures)
+    (c .unsigned-for3 .ensures)
 
 pub open-spec : {M : Type 1} → statement M
 open-spec =
     tie.close
     (tie.spec
     check-requires
-    unsigned-requires
+    unsigned-for-requires
     returns
     permission-count-requires
     cast-if2
-    unsigned-requires-2
+    unsigned-for-requires-2
     returns-2
-    cast-unsigned
-    unsigned-requires-3
+    cast-unsigned-for
+    unsigned-for-requires-3
     returns-3)

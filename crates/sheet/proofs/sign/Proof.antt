@@ -36,10 +36,13 @@ record Run : Type 0 where
   is : answer ≡ signRefusal (start .args .base .now) (heldOn (start .args .s)) (start .args .user) (start .args .role)
   size : length (start .args .s .entries) ≡ 12
 
+abbrev at-held : tie.After-held → tie.Start
+at-held c = c .before .before .before .before
+
 abbrev at-refusal : tie.After-sign-refusal → Run
 at-refusal c =
     let held = c .before .held .ensures in
-    let s = c .before .before .before .before .before in
+    let s = at-held (c .before) in
     record {
       start = s;
       answer = c .sign-refusal .result;
@@ -64,7 +67,7 @@ sign-refusal-requires c κs = search needs
 returns : tie.Need-returns
 returns c =
     let r = at-refusal (c .before) in
-    unchanged _ _ _ _ (r .is) (c .if1 .taken)
+    unchanged _ (r .start .args .s) _ _ (r .is) (c .if1 .taken)
 
 cast-with-entry : tie.Need-cast-with-entry
 cast-with-entry c =

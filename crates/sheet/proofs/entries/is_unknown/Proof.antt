@@ -35,7 +35,9 @@ cast-result : tie.Need-cast-result
 cast-result c = search needs
 
 returns-2 : tie.Need-returns-2
-returns-2 c = by-role _ _ _ _ _ _ (c .before .before .user-count .ensures) (c .before .if1 .left) (c .role-count .ensures)
+returns-2 c =
+    let e = c .before in
+    by-role _ _ _ _ _ _ (e .before .user-count .ensures) (e .if1 .left) (c .role-count .ensures)
 
 pub is-unknown-spec : {M : Type 1} → statement M
 is-unknown-spec = tie.close (tie.spec user-count-requires returns role-count-requires cast-result returns-2)

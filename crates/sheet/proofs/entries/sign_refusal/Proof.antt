@@ -1,5 +1,5 @@
--- `sign_refusal` meets its contract: a chain of refusals. A `Run` is what a run knows at a place: where it started, that
--- the base is accepted, and what is left of the chain.
+-- `sign_refusal` meets its contract: a chain of refusals. A `Run` is what a run knows at a place: where it started,
+-- that the base is accepted, and what is left of the chain.
 use Prim.Native.Nat.{ℕ, _<_, _≤_}
 use mathlib.Core.Bool.{Bool, true, false, not, cond}
 use mathlib.Core.List.{List}

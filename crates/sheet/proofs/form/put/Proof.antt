@@ -17,6 +17,10 @@ record Stored (from : List ℕ) (at : ℕ) (was to : List ℕ) (i : ℕ) : Type 
   size : length to ≡ length was
   are : to ≡ paste was at from i
 
+none-stored : (from : List ℕ) (at : ℕ) (was : List ℕ) → at + length from ≤ length was → Stored from at was was 0
+none-stored from at was h =
+    record { within = omega arith; fits = h; size = refl; are = paste-zero was at from }
+
 one-more : {from was to : List ℕ} {at i : ℕ} → Stored from at was to i → i < length from →
     Stored from at was (set to (at + i) (getD from i 0)) (i + 1)
 one-more {from} {was} {to} {at} {i} s l =
@@ -42,8 +46,7 @@ abbrev at-byte : tie.After-shared-slice-known Inv-loop μ-loop → tie.In-loop I
 at-byte c = c .before
 
 loop-holds : tie.Need-loop-holds Inv-loop μ-loop
-loop-holds c =
-    record { within = omega arith; fits = c .pre; size = refl; are = paste-zero (c .args .to .now) (c .args .at) (c .args .from .now) }
+loop-holds c = none-stored (c .args .from .now) (c .args .at) (c .args .to .now) (c .pre)
 
 shared-slice-read-to : tie.Need-shared-slice-read-to Inv-loop μ-loop
 shared-slice-read-to c = search needs
