@@ -1,47 +1,37 @@
 -- The laws of the sheets that calls made.
-use Prim.Native.Nat.{ℕ, zero, suc, _+_, _*_, _-_, _<_, _≤_}
-use mathlib.Core.Bool.{Bool, true, false, cond}
+use Prim.Native.Nat.{ℕ, zero, suc, _+_, _*_, _-_, _≤_}
+use mathlib.Core.Bool.{true}
 use mathlib.Core.Path.{_≡_, refl, sym, ap, _∙_}
-use mathlib.Core.Logic.{_↔_, ⊎-elim}
+use mathlib.Core.Logic.{_↔_}
 use mathlib.Core.List.{List, [], _∷_, _++_}
 use native.Mathlib.Omega.{arith}
 use borrow.Author.Tests.{eqb-true, eq-eqb, ne-eqb}
-use lib.ListN.{length, getD, length-append, replicate, length-replicate, getD-replicate, List·getD-eq-default}
+use lib.ListN.{length, getD, length-append, replicate, length-replicate}
 use lib.Seq.{getD-append-add}
 use lib.Dec.{eqb}
-use Rattle.folds.proofs.Bools.{met-or-not}
 use Rattle.weights.specs.declared.Context.{Context}
-use Rattle.decision.specs.Groups.{entryCount, entryUser}
+use Rattle.decision.specs.Groups.{entryCount}
 use Rattle.decision.specs.Decision.{decisionOf}
 use Rattle.sheet.specs.declared.Sheet.{Sheet}
-use Rattle.sheet.specs.Sheets.{heldOn, unsigned, openRefusal, opened, signed, asked}
+use Rattle.sheet.specs.Sheets.{heldOn, openRefusal, openedFor, opened, signed, asked}
 use Rattle.sheet.specs.Signings.{Signing, acceptable, accepted, entriesOf, sheetWith, afterAll, answeredDone}
 use Rattle.sheet.specs.Signings.{Made, Orderly}
 use Rattle.sheet.proofs.Standing.{entries-length, entries-count, held-with}
 use Rattle.sheet.proofs.Accepting.{done-acceptable, all-held, all-done, all-few, all-differ, Differ}
 
--- a new sheet holds nothing: the one for the permission where the opening is done, else the one for permission 255
+-- a new sheet is for the permission asked for where the opening is done, else for permission 255; it holds nothing
 module _ (b : List ℕ) (p : ℕ) where
-  pub opened-done : openRefusal b p ≡ 0 → opened b p .sheet ≡ sheetWith p []
-  unfolding opened sheetWith entriesOf
+  pub opened-done : openRefusal b p ≡ 0 → openedFor b p ≡ p
+  unfolding openedFor
   opened-done h = rw h
 
-  pub opened-refused : (openRefusal b p ≡ 0 → ⊥) → opened b p .sheet ≡ sheetWith 255 []
-  unfolding opened sheetWith entriesOf
+  pub opened-refused : (openRefusal b p ≡ 0 → ⊥) → openedFor b p ≡ 255
+  unfolding openedFor
   opened-refused h = rw (ne-eqb (openRefusal b p) 0 h)
 
-  -- the permission that it is for
-  abbrev for : ℕ
-  for = opened b p .sheet .permission
-
-  opened-new : opened b p .sheet ≡ sheetWith for []
-  unfolding opened sheetWith entriesOf
-  opened-new = by (eqb (openRefusal b p) 0)
-    where
-      by : (t : Bool) →
-          cond t (unsigned p) (unsigned 255) ≡ sheetWith (cond t (unsigned p) (unsigned 255) .permission) []
-      by true = refl
-      by false = refl
+  pub opened-new : opened b p .sheet ≡ sheetWith (openedFor b p) []
+  unfolding sheetWith entriesOf
+  opened-new = refl
 
   module _ (xs : List Signing) where
     abbrev last : Sheet
@@ -51,15 +41,15 @@ module _ (b : List ℕ) (p : ℕ) where
     few = all-few xs [] (omega arith)
 
     -- after every list of signings on a new sheet, it holds exactly the accepted ones, and its unused bytes are 0
-    pub sheet-accepted : last ≡ sheetWith for (accepted xs)
-    sheet-accepted = ap (λ (s : Sheet). afterAll s xs) opened-new ∙ all-held for xs [] (omega arith)
+    pub sheet-accepted : last ≡ sheetWith (openedFor b p) (accepted xs)
+    sheet-accepted = ap (λ (s : Sheet). afterAll s xs) opened-new ∙ all-held (openedFor b p) xs [] (omega arith)
 
     pub held-accepted : heldOn last ≡ entriesOf (accepted xs)
-    held-accepted = ap heldOn sheet-accepted ∙ held-with for (accepted xs) few
+    held-accepted = ap heldOn sheet-accepted ∙ held-with (openedFor b p) (accepted xs) few
 
     -- `sign` answers 0 exactly to those
     pub done-accepted : answeredDone (opened b p .sheet) xs ≡ accepted xs
-    done-accepted = ap (λ (s : Sheet). answeredDone s xs) opened-new ∙ all-done for xs [] (omega arith)
+    done-accepted = ap (λ (s : Sheet). answeredDone s xs) opened-new ∙ all-done (openedFor b p) xs [] (omega arith)
 
     -- and to the next one exactly if it is accepted after them
     pub next-done : (x : Signing) →
@@ -67,7 +57,7 @@ module _ (b : List ℕ) (p : ℕ) where
     next-done x =
         let e : eqb (signed (x .base) last (x .user) (x .role) .refusal) 0 ≡ acceptable (accepted xs) x =
         ap (λ (s : Sheet). eqb (signed (x .base) s (x .user) (x .role) .refusal) 0) sheet-accepted
-        ∙ done-acceptable for (accepted xs) x few in
+        ∙ done-acceptable (openedFor b p) (accepted xs) x few in
         (λ h. sym e ∙ eq-eqb _ _ h, λ h. eqb-true _ _ (e ∙ h))
 
 -- each call makes such a sheet
@@ -140,7 +130,7 @@ made-orderly s m =
 
 -- asking a made sheet is the decision for the accepted signatures, in order of acceptance
 pub made-asked : (s : Sheet) (m : Made s) (b : List ℕ) (at : Context) →
-    asked b s at ≡ decisionOf b at (for (m .base) (m .permission)) (entriesOf (accepted (m .signings)))
+    asked b s at ≡ decisionOf b at (openedFor (m .base) (m .permission)) (entriesOf (accepted (m .signings)))
 unfolding sheetWith
 made-asked s m b at =
     let held = ap heldOn (m .is) ∙ held-accepted (m .base) (m .permission) (m .signings) in

@@ -10,7 +10,7 @@ use Rattle.folds.proofs.Bools.{or-left, or-right}
 use Rattle.reader.specs.Tables.{roleCount}
 use Rattle.reader.specs.Rules.{refusalOf}
 use Rattle.weights.specs.Acting.{mayAct}
-use Rattle.decision.specs.Groups.{entryCount, unknown}
+use Rattle.decision.specs.Groups.{entryCount}
 use Rattle.decision.specs.Decision.{userCount}
 use Rattle.sheet.specs.Sheets.{standsIn, signRefusal}
 

@@ -33,11 +33,13 @@ openRefusal b p =
     cond (not (eqb (refusalOf b) 0)) (refusalOf b)
     (cond (not (ltb p (permissionCount b))) 10 0)
 
--- opening: the unsigned sheet for that permission; refused, the one for permission 255
-unfoldable pub opened : List ℕ → ℕ → Outcome
-unfolding openRefusal
-opened b p =
-    record { refusal = openRefusal b p; sheet = cond (eqb (openRefusal b p) 0) (unsigned p) (unsigned 255) }
+-- the permission that the sheet of an opening is for: the one asked for, 255 where the opening is refused
+unfoldable pub openedFor : List ℕ → ℕ → ℕ
+openedFor b p = cond (eqb (openRefusal b p) 0) p 255
+
+-- opening: the unsigned sheet for that permission
+abbrev pub opened : List ℕ → ℕ → Outcome
+opened b p = record { refusal = openRefusal b p; sheet = unsigned (openedFor b p) }
 
 -- refusal 14 for a new entry: its user has one of the entries held
 unfoldable pub standsIn : List ℕ → ℕ → Bool

@@ -2,7 +2,6 @@
 use Prim.Native.Nat.{ℕ, _<_, _≤_}
 use mathlib.Core.List.{List}
 use mathlib.Core.Path.{_≡_, sym, _∙_}
-use native.Mathlib.Nat.{lt-of-lt-of-le}
 use native.Mathlib.Omega.{arith}
 use borrow.Author.Tests.{lt-ltb, le-ltb, ne-eqb}
 use Rattle.reader.specs.Tables.{permissionCount}
@@ -11,7 +10,7 @@ use Rattle.reader.proofs.Frame.{permissions-le}
 use Rattle.reader.proofs.Accepted.{accepted-frame}
 use Rattle.sheet.specs.declared.Sheet.{Sheet}
 use Rattle.sheet.specs.declared.Outcome.{Outcome}
-use Rattle.sheet.specs.Sheets.{unsigned, openRefusal, opened}
+use Rattle.sheet.specs.Sheets.{unsigned, openRefusal, openedFor, opened}
 use borrow.Author.Needs.{needs}
 use Rattle.sheet.proofs.open.Statement.{statement}
 use Rattle.sheet.proofs.open.Tie as tie
@@ -19,17 +18,17 @@ use Rattle.sheet.proofs.open.Tie as tie
 module _ (b : List ℕ) (p : ℕ) where
   by-base : {n : ℕ} {s : Sheet} → n ≡ refusalOf b → (n ≡ 0 → ⊥) → s ≡ unsigned 255 →
       _≡_ {A = Outcome} (record { refusal = n; sheet = s }) (opened b p)
-  unfolding opened openRefusal
+  unfolding openedFor openRefusal
   by-base {n} e h k = rw (k, ← e, ne-eqb n 0 h, ne-eqb n 0 h)
 
   by-permission : {n : ℕ} {s : Sheet} → refusalOf b ≡ 0 → n ≡ permissionCount b → n ≤ p → s ≡ unsigned 255 →
       _≡_ {A = Outcome} (record { refusal = 10; sheet = s }) (opened b p)
-  unfolding opened openRefusal
+  unfolding openedFor openRefusal
   by-permission ok e h k = rw (k, ok, ← e, le-ltb _ _ h)
 
   done : {n : ℕ} {s : Sheet} → refusalOf b ≡ 0 → n ≡ permissionCount b → p < n → s ≡ unsigned p →
       _≡_ {A = Outcome} (record { refusal = 0; sheet = s }) (opened b p)
-  unfolding opened openRefusal
+  unfolding openedFor openRefusal
   done ok e h k = rw (k, ok, ← e, lt-ltb _ _ h)
 
 -- 1 to 9 don't apply

@@ -1,5 +1,5 @@
 -- `sign` meets its contract: the refusal by what the sheet holds, and the sheet with the entry where there is none.
-use Prim.Native.Nat.{ℕ, _<_, _≤_}
+use Prim.Native.Nat.{ℕ}
 use mathlib.Core.List.{List}
 use mathlib.Core.Path.{_≡_, ap, sym, _∙_}
 use native.Mathlib.Nat.{lt-of-lt-of-le}

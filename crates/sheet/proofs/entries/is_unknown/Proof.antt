@@ -1,9 +1,8 @@
 -- `is_unknown` meets its contract: the user isn't there, or the role isn't.
 use Prim.Native.Nat.{ℕ, _<_, _≤_}
-use mathlib.Core.Bool.{true, _||_, not}
-use mathlib.Core.List.{List}
+use mathlib.Core.Bool.{true}
 use mathlib.Core.Path.{_≡_, sym}
-use lib.Dec.{ltb, leb}
+use lib.Dec.{leb}
 use borrow.Author.Tests.{lt-ltb, le-ltb}
 use borrow.Author.Needs.{needs}
 use Rattle.folds.proofs.Bools.{not-ltb}

@@ -1,7 +1,7 @@
 -- `read` meets its contract: the twelve bytes behind the first two are the entries.
 use Prim.Native.Nat.{ℕ, _-_}
 use mathlib.Core.List.{List, append-nil}
-use mathlib.Core.Path.{_≡_, refl, ap, _∙_}
+use mathlib.Core.Path.{_≡_, refl, _∙_}
 use native.Mathlib.Omega.{arith}
 use lib.ListN.{length, take, drop, length-drop, replicate, getD}
 use lib.Seq.{paste, take-all}
