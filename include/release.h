@@ -194,7 +194,8 @@ uint32_t release_sheet_open(const uint8_t *base, size_t base_len,
  * of refusals 1 to 9, 13, 14, 15 and 20 that applies. 13 to 15 are for the new
  * entry alone; it gets 14 if its user is on the sheet, in whatever role. A full
  * sheet gets them before 20. Numbers aren't cut: user 256 is refused by 13. The
- * sheet's permission isn't looked at.
+ * sheet's permission isn't looked at, nor are the entries that it holds looked
+ * at again: asking judges all of them by the base that it is handed.
  *
  * Of 0, the entry stands behind those that the sheet held, its number of
  * entries is one more, and every other byte is as it was. Of a refusal every

@@ -99,9 +99,12 @@ pub extern "C" fn release_sheet_sign(base: &[u8], user: u32, role: u32, sheet: &
 {
     let s = sheet::form::read(sheet);
     let outcome = sheet::sign(base, s, user, role);
+    if outcome.refusal != 0 {
+        return outcome.refusal as u32;
+    }
     let given = outcome.sheet;
     sheet::form::write(given, sheet);
-    outcome.refusal as u32
+    0
 }
 
 // Asking a sheet: the decision for its permission and the entries that it holds.

@@ -1,4 +1,5 @@
 pub mod Accepting
+pub mod Asking
 pub mod Bytes
 pub mod Holding
 pub mod Making

@@ -16,6 +16,7 @@ use Rattle.sheet.specs.declared.Sheet.{Sheet}
 use Rattle.sheet.specs.Sheets.{heldOn, openRefusal, openedFor, opened, signed, asked}
 use Rattle.sheet.specs.Signings.{Signing, acceptable, accepted, entriesOf, sheetWith, afterAll, answeredDone}
 use Rattle.sheet.specs.Signings.{Made, Orderly}
+use Rattle.sheet.specs.Form.{bytesOf, bytesAfterAll}
 use Rattle.sheet.proofs.Standing.{entries-length, entries-count, held-with}
 use Rattle.sheet.proofs.Accepting.{done-acceptable, all-held, all-done, all-few, all-differ, Differ}
 
@@ -34,17 +35,14 @@ module _ (b : List ℕ) (p : ℕ) where
   opened-new = refl
 
   module _ (xs : List Signing) where
-    abbrev last : Sheet
-    last = afterAll (opened b p .sheet) xs
-
     few : length (accepted xs) ≤ 6
     few = all-few xs [] (omega arith)
 
     -- after every list of signings on a new sheet, it holds exactly the accepted ones, and its unused bytes are 0
-    pub sheet-accepted : last ≡ sheetWith (openedFor b p) (accepted xs)
+    pub sheet-accepted : afterAll (opened b p .sheet) xs ≡ sheetWith (openedFor b p) (accepted xs)
     sheet-accepted = ap (λ (s : Sheet). afterAll s xs) opened-new ∙ all-held (openedFor b p) xs [] (omega arith)
 
-    pub held-accepted : heldOn last ≡ entriesOf (accepted xs)
+    pub held-accepted : heldOn (afterAll (opened b p .sheet) xs) ≡ entriesOf (accepted xs)
     held-accepted = ap heldOn sheet-accepted ∙ held-with (openedFor b p) (accepted xs) few
 
     -- `sign` answers 0 exactly to those
@@ -53,8 +51,10 @@ module _ (b : List ℕ) (p : ℕ) where
 
     -- and to the next one exactly if it is accepted after them
     pub next-done : (x : Signing) →
-        (signed (x .base) last (x .user) (x .role) .refusal ≡ 0) ↔ (acceptable (accepted xs) x ≡ true)
+        (signed (x .base) (afterAll (opened b p .sheet) xs) (x .user) (x .role) .refusal ≡ 0) ↔
+        (acceptable (accepted xs) x ≡ true)
     next-done x =
+        let last : Sheet = afterAll (opened b p .sheet) xs in
         let e : eqb (signed (x .base) last (x .user) (x .role) .refusal) 0 ≡ acceptable (accepted xs) x =
         ap (λ (s : Sheet). eqb (signed (x .base) s (x .user) (x .role) .refusal) 0) sheet-accepted
         ∙ done-acceptable (openedFor b p) (accepted xs) x few in
@@ -138,3 +138,13 @@ made-asked s m b at =
     let permission = ap (λ (t : Sheet). t .permission) is in
     ap (λ (g : List ℕ). decisionOf b at (s .permission) g) held
     ∙ ap (λ (p : ℕ). decisionOf b at p (entriesOf (accepted (m .signings)))) permission
+
+-- the same of the 14 bytes
+bytes-after : (s : Sheet) (xs : List Signing) → bytesAfterAll (bytesOf s) xs ≡ bytesOf (afterAll s xs)
+unfolding bytesAfterAll afterAll
+bytes-after s [] = refl
+bytes-after s (x ∷ xs) = bytes-after (signed (x .base) s (x .user) (x .role) .sheet) xs
+
+pub bytes-accepted : (b : List ℕ) (p : ℕ) (xs : List Signing) →
+    bytesAfterAll (bytesOf (opened b p .sheet)) xs ≡ bytesOf (sheetWith (openedFor b p) (accepted xs))
+bytes-accepted b p xs = bytes-after (opened b p .sheet) xs ∙ ap bytesOf (sheet-accepted b p xs)
