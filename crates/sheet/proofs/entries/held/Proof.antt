@@ -17,9 +17,16 @@ whole n l h e = rw (lt-ltb 6 n h) (sym (take-all 12 l (omega (arith, e))))
 claimed : (n : ℕ) (l : List ℕ) → n ≤ 6 → take (2 * n - 0) (drop 0 l) ≡ take (2 * heldCount n) l
 claimed n l h = let e : 2 * n - 0 ≡ 2 * n = omega arith in rw (le-ltb 6 n h, e)
 
+-- the entry
+abbrev entries : tie.Start → List ℕ
+entries s = s .args .entries .now
+
+abbrev start : tie.After-all → tie.Start
+start c = c .before
+
 returns : tie.Need-returns
 returns c =
-    let size : length (c .before .before .args .entries .now) ≡ 12 = search needs in
+    let size : length (entries (start (c .before))) ≡ 12 = search needs in
     (whole _ _ (c .if1 .taken) size, size)
 
 mul-result : tie.Need-mul-result
@@ -36,7 +43,7 @@ part-result-end c = search needs
 
 returns-2 : tie.Need-returns-2
 returns-2 c =
-    let size : length (c .before .before .before .args .entries .now) ≡ 12 = search needs in
+    let size : length (entries (start (c .before .before))) ≡ 12 = search needs in
     (claimed _ _ (c .before .if1 .left), size)
 
 pub held-spec : {M : Type 1} → statement M

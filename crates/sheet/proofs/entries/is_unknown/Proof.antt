@@ -1,12 +1,14 @@
 -- `is_unknown` meets its contract: the user isn't there, or the role isn't.
 use Prim.Native.Nat.{ℕ, _<_, _≤_}
 use mathlib.Core.Bool.{true}
+use mathlib.Core.List.{List}
 use mathlib.Core.Path.{_≡_, sym}
 use lib.Dec.{leb}
 use borrow.Author.Tests.{lt-ltb, le-ltb}
 use borrow.Author.Needs.{needs}
 use Rattle.folds.proofs.Bools.{not-ltb}
 use Rattle.reader.specs.Tables.{roleCount}
+use Rattle.reader.specs.Rules.{refusalOf}
 use Rattle.reader.proofs.Frame.{framed}
 use Rattle.reader.proofs.Accepted.{accepted-frame}
 use Rattle.decision.specs.Groups.{unknown}
@@ -19,16 +21,34 @@ no-user n U R u r e h = rw (← e, le-ltb _ _ h)
 by-role : (n U m R u r : ℕ) → n ≡ U → u < n → m ≡ R → leb m r ≡ unknown U R u r
 by-role n U m R u r e h f = rw (← e, ← f, lt-ltb _ _ h) (sym (not-ltb r m))
 
+-- the entry
+module _ (s : tie.Start) where
+  abbrev base : List ℕ
+  base = s .args .base .now
+
+  abbrev role : ℕ
+  role = s .args .role
+
+  ok : refusalOf base ≡ 0
+  ok = s .pre
+
+-- the number of users is known
+abbrev at-users : tie.After-user-count → tie.Start
+at-users c = c .before .before
+
+abbrev past-user : tie.Else1 → tie.Start
+past-user c = at-users (c .before)
+
 user-count-requires : tie.Need-user-count-requires
-user-count-requires c κs = c .before .pre
+user-count-requires c κs = ok (c .before)
 
 returns : tie.Need-returns
 returns c =
-    let s = c .before .before .before in
-    no-user _ _ (roleCount (s .args .base .now)) _ (s .args .role) (c .before .user-count .ensures) (c .if1 .taken)
+    let s = at-users (c .before) in
+    no-user _ _ (roleCount (base s)) _ (role s) (c .before .user-count .ensures) (c .if1 .taken)
 
 role-count-requires : tie.Need-role-count-requires
-role-count-requires c κs = framed _ (accepted-frame _ (c .before .before .before .pre)) .long
+role-count-requires c κs = framed _ (accepted-frame _ (ok (past-user c))) .long
 
 cast-result : tie.Need-cast-result
 cast-result c = search needs

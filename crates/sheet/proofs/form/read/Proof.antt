@@ -25,6 +25,16 @@ is-read l {from} size e h =
     let whole : from ≡ drop 2 l = e ∙ behind l size in
     rw (h, whole, put-over (drop 2 l) (omega (arith, length-drop 2 l, size)))
 
+-- the entry, and the places where the bytes are put and where the sheet is made
+abbrev bytes : tie.Start → List ℕ
+bytes s = s .args .bytes .now
+
+abbrev at-put : tie.After-put → tie.Start
+at-put c = c .before .before .before .before
+
+abbrev at-end : tie.After-shared-slice-known2 → tie.After-put
+at-end c = c .before .before .before
+
 sub-put : tie.Need-sub-put
 sub-put c = search needs
 
@@ -46,17 +56,12 @@ shared-slice-read-t13 c = search needs
 shared-slice-read-t15 : tie.Need-shared-slice-read-t15
 shared-slice-read-t15 c = search needs
 
-abbrev at-put : tie.After-put → tie.Start
-at-put c = c .before .before .before .before
-
-abbrev at-end : tie.After-shared-slice-known2 → tie.After-put
-at-end c = c .before .before .before
-
 returns : tie.Need-returns
 returns c =
     let p = at-end c in
-    let size : length (at-put p .args .bytes .now) ≡ 14 = search needs in
-    (is-read (at-put p .args .bytes .now) size refl (p .put .ensures), size)
+    let all = bytes (at-put p) in
+    let size : length all ≡ 14 = search needs in
+    (is-read all size refl (p .put .ensures), size)
 
 pub read-spec : {M : Type 1} → statement M
 read-spec =

@@ -5,6 +5,7 @@ use mathlib.Core.Path.{_≡_, sym, ap, _∙_}
 use native.Mathlib.Omega.{arith}
 use lib.ListN.{length, take, drop, set, length-set, drop-of-length-le}
 use lib.Seq.{paste, take-all}
+use Rattle.sheet.specs.declared.Sheet.{Sheet}
 use Rattle.sheet.proofs.Holding.{held-length}
 use borrow.Author.Needs.{needs}
 use Rattle.sheet.proofs.form.write.Statement.{statement}
@@ -28,12 +29,19 @@ is-written b e p c {held} h k are to =
 fits : (b e : List ℕ) {held : List ℕ} → length b ≡ 14 → length e ≡ 12 → held ≡ take 12 e → 2 + length held ≤ length b
 fits b e h k are = let whole = held-length 6 e k in rw (are, whole, h) (omega arith)
 
+-- the entry: the sheet, the bytes, and these with the first two written
+module _ (s : tie.Start) where
+  abbrev sheet : Sheet
+  sheet = s .args .s
+
+  abbrev bytes : List ℕ
+  bytes = s .args .bytes .now
+
+  abbrev written : List ℕ
+  written = set (set bytes 0 (sheet .permission)) 1 (sheet .count)
+
 abbrev start : tie.After-held → tie.Start
 start c = c .before .before .before
-
--- the bytes with the first two written
-abbrev written : tie.Start → List ℕ
-written s = set (set (s .args .bytes .now) 0 (s .args .s .permission)) 1 (s .args .s .count)
 
 element-write-bytes : tie.Need-element-write-bytes
 element-write-bytes c = search needs
@@ -49,7 +57,7 @@ put-requires c κs =
     let s = start (c .before) in
     let (are, size) = c .before .held .ensures in
     let room : length (written s) ≡ 14 = search needs in
-    fits (written s) (s .args .s .entries) room size are
+    fits (written s) (sheet s .entries) room size are
 
 returns : tie.Need-returns
 returns c =
@@ -57,7 +65,7 @@ returns c =
     let s = start h in
     let (are, size) = h .held .ensures in
     let room : length (written s) ≡ 14 = search needs in
-    is-written (s .args .bytes .now) (s .args .s .entries) _ _ room size are (c .put .ensures)
+    is-written (bytes s) (sheet s .entries) _ _ room size are (c .put .ensures)
 
 pub write-spec : {M : Type 1} → statement M
 write-spec = tie.close (tie.spec element-write-bytes element-write-bytes-2 held-requires put-requires returns)
