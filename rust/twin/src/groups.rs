@@ -45,7 +45,7 @@ fn stands_before(entries: &[[u8; 2]], i: usize) -> bool {
     before.iter().any(|entry| entry[0] == later[0][0])
 }
 
-fn may_act(base: &Base, &[user, role]: &[u8; 2]) -> bool {
+pub fn may_act(base: &Base, &[user, role]: &[u8; 2]) -> bool {
     let parameter = u32::from_le_bytes(base.users[usize::from(user)]);
     parameter.is_multiple_of(CODES[usize::from(role & 7)])
 }

@@ -17,11 +17,14 @@ pub mod plan;
 mod related;
 mod rows;
 mod search;
+mod sheet;
 mod weights;
 pub mod worst;
 
 use base::Base;
 use model::{Answer, Context};
+
+pub use sheet::{sheet_ask, sheet_open, sheet_sign};
 
 /// The identity codes of roles 0 to 7.
 const CODES: [u32; 8] = [3, 5, 7, 11, 13, 17, 19, 23];
