@@ -33,6 +33,14 @@ impl SheetCall {
         }
     }
 
+    pub fn by_twin(self, base: &[u8], sheet: &mut Sheet) -> u8 {
+        match self {
+            SheetCall::Open { permission } => twin::sheet_open(base, permission, sheet),
+            SheetCall::Sign { user, role } => twin::sheet_sign(base, user, role, sheet),
+            SheetCall::Ask { at } => twin::sheet_ask(base, at, sheet),
+        }
+    }
+
     pub fn by_model(self, reading: Reading, base: &[u8], sheet: &mut Sheet) -> u8 {
         match self {
             SheetCall::Open { permission } => {

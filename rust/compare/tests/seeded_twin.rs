@@ -7,14 +7,19 @@ use compare::clashing::clashing_base;
 use compare::damage::*;
 use compare::lent::Lent;
 use compare::lively::{full_base, heavy_base, lively_base};
+use compare::mornings::{loose_sheets, morning, Morning};
 use compare::questions::{any_context, any_permission, random_question};
 use compare::random::Random;
+use compare::sheets::SheetCall;
 use compare::shown::{self, RECORD};
 use compare::sparse::sparse_base;
 use compare::valid::{random_base, Size};
 use compare::{library_context, permission_count};
 use model::{Base, Context};
 use twin::worst;
+
+/// Bytes of a sheet.
+const SHEET: usize = 14;
 
 /// Asserts that the two agree on the check, the report and the conflict list.
 fn compare_calls(random: &mut Random, base: &[u8], at: Context) {
@@ -62,6 +67,15 @@ fn compare_decision(base: &[u8], permission: u32, at: Context, group: &[u8]) {
     assert_eq!(u32::from(by_twin), by_library);
 }
 
+/// Asserts that the two answer a call on a sheet alike and leave the same bytes.
+fn compare_sheets(base: &[u8], call: SheetCall, by_library: &mut Lent) {
+    let mut by_twin = by_library.clone();
+    let library = call.by_library(base, by_library.sheet());
+    let twin = call.by_twin(base, by_twin.sheet());
+    assert_eq!(u32::from(twin), library);
+    assert_eq!(by_twin.first_difference(by_library), None);
+}
+
 fn sound_base(random: &mut Random) -> BaseBuilder {
     match random.below(16) {
         0 => random_base(random, Size::Small),
@@ -106,6 +120,14 @@ fn loose_bytes() {
         compare_calls(&mut random, &base, at);
         let permission = any_permission(&mut random, 16);
         compare_decision(&base, permission, at, &[0, 0]);
+        let calls = [
+            SheetCall::Open { permission },
+            SheetCall::Sign { user: 0, role: 0 },
+            SheetCall::Ask { at },
+        ];
+        for call in calls {
+            compare_sheets(&base, call, &mut Lent::noisy(&mut random, SHEET));
+        }
     }
 }
 
@@ -117,4 +139,25 @@ fn worst_bases() {
         let refusal = compare_report(&mut random, &plan.bytes(), at, 16 * RECORD);
         assert_eq!(refusal, 0, "{name}");
     }
+}
+
+#[test]
+fn mornings_on_a_sheet() {
+    let mut random = Random::new(84);
+    for _ in 0..2_000 {
+        let Morning { bases, calls } = morning(&mut random);
+        let mut lent = Lent::noisy(&mut random, SHEET);
+        for (place, call) in calls {
+            compare_sheets(&bases[place], call, &mut lent);
+        }
+    }
+}
+
+#[test]
+fn sheets_of_any_bytes() {
+    loose_sheets(85, 1_000, |random, base, call, sheet| {
+        let mut lent = Lent::noisy(random, SHEET);
+        *lent.sheet() = sheet;
+        compare_sheets(base, call, &mut lent);
+    });
 }
