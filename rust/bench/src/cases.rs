@@ -2,7 +2,7 @@
 
 use compare::questions::at_minute;
 use compare::shop::small_shop;
-use model::Context;
+use model::{Context, Sheet};
 
 use crate::bases::{full_base, many_contexts, most_conflicts, typical_shop};
 use crate::worst;
@@ -13,6 +13,10 @@ pub enum Call {
     Decide,
     Report,
     Conflicts,
+    Open,
+    /// By a user in a role.
+    Sign(u32, u32),
+    Ask,
 }
 
 /// Who answers.
@@ -43,6 +47,8 @@ pub struct Case {
     pub at: Context,
     /// Asked of permission 0.
     pub group: Vec<u8>,
+    /// For permission 0, holding the group. A call that writes gets a copy.
+    pub sheet: Sheet,
 }
 
 /// A buffer that suffices for every call.
@@ -74,6 +80,11 @@ impl Case {
             Call::Decide => release::answers::decide(&self.base, 0, at, &self.group).into(),
             Call::Report => number(release::answers::report(&self.base, at, out)),
             Call::Conflicts => number(release::answers::conflicts(&self.base, out)),
+            Call::Open => release::answers::sheet_open(&self.base, 0, &mut { self.sheet }).into(),
+            Call::Sign(user, role) => {
+                release::answers::sheet_sign(&self.base, user, role, &mut { self.sheet }).into()
+            }
+            Call::Ask => release::answers::sheet_ask(&self.base, at, &self.sheet).into(),
         }
     }
 
@@ -83,6 +94,11 @@ impl Case {
             Call::Decide => twin::decide(&self.base, 0, self.at, &self.group).into(),
             Call::Report => number(twin::report(&self.base, self.at, out)),
             Call::Conflicts => number(twin::conflicts(&self.base, out)),
+            Call::Open => twin::sheet_open(&self.base, 0, &mut { self.sheet }).into(),
+            Call::Sign(user, role) => {
+                twin::sheet_sign(&self.base, user, role, &mut { self.sheet }).into()
+            }
+            Call::Ask => twin::sheet_ask(&self.base, self.at, &self.sheet).into(),
         }
     }
 
@@ -92,6 +108,11 @@ impl Case {
             Call::Decide => model::decide(&self.base, 0, self.at, &self.group).into(),
             Call::Report => number(model::report(&self.base, self.at, out)),
             Call::Conflicts => number(model::conflicts(&self.base, out)),
+            Call::Open => model::sheet_open(&self.base, 0, &mut { self.sheet }).into(),
+            Call::Sign(user, role) => {
+                model::sheet_sign(&self.base, user, role, &mut { self.sheet }).into()
+            }
+            Call::Ask => model::sheet_ask(&self.base, self.at, &self.sheet).into(),
         }
     }
 }
@@ -112,6 +133,14 @@ pub fn cases() -> Vec<Case> {
         case("decide small shop", Call::Decide, &small, &[0, 0, 2, 2]),
         case("decide typical shop", Call::Decide, &typical, &[0, 0, 6, 3]),
         case("decide full base", Call::Decide, &full, &six),
+        case("open small shop", Call::Open, &small, &[]),
+        case("open typical shop", Call::Open, &typical, &[]),
+        case("sign small shop", Call::Sign(2, 2), &small, &[0, 0]),
+        case("sign typical shop", Call::Sign(6, 3), &typical, &[0, 0]),
+        case("sign full base", Call::Sign(5, 5), &full, &six[..10]),
+        case("ask small shop", Call::Ask, &small, &[0, 0, 2, 2]),
+        case("ask typical shop", Call::Ask, &typical, &[0, 0, 6, 3]),
+        case("ask full base", Call::Ask, &full, &six),
         report("report small shop", &small),
         report("report typical shop", &typical),
         report("report full base", &full),
@@ -145,7 +174,15 @@ fn case(name: &str, call: Call, base: &[u8], group: &[u8]) -> Case {
         base: base.to_vec(),
         at: at_minute(600),
         group: group.to_vec(),
+        sheet: holding(group),
     }
+}
+
+fn holding(group: &[u8]) -> Sheet {
+    let mut sheet = [0; 14];
+    sheet[1] = group.len() as u8 / 2;
+    sheet[2..][..group.len()].copy_from_slice(group);
+    sheet
 }
 
 #[cfg(test)]
@@ -157,7 +194,7 @@ mod tests {
         for case in cases() {
             let answers = ALL.map(|who| case.answer(who, &mut [0; 3 * 2_784]));
             assert!(answers.iter().all(|answer| *answer == answers[0]));
-            let full = case.name == "decide full base";
+            let full = matches!(&case.name[..], "decide full base" | "ask full base");
             assert_eq!(answers[0] % 256, if full { 17 } else { 0 }, "{}", case.name);
         }
     }
