@@ -47,7 +47,7 @@ pub struct Case {
     pub at: Context,
     /// Asked of permission 0.
     pub group: Vec<u8>,
-    /// For permission 0, holding the group. A call that writes gets a copy.
+    /// For permission 0, holding the group.
     pub sheet: Sheet,
 }
 
@@ -70,6 +70,13 @@ impl Case {
         }
     }
 
+    /// A copy in the buffer, so that each call starts from the same sheet.
+    fn lent_sheet<'a>(&self, out: &'a mut Buffer) -> &'a mut Sheet {
+        let sheet = out.first_chunk_mut().expect("a sheet fits");
+        *sheet = self.sheet;
+        sheet
+    }
+
     fn by_library(&self, out: &mut Buffer) -> u64 {
         let at = compare::library_context(self.at);
         let number = |answer: release::answers::Answer| {
@@ -80,9 +87,9 @@ impl Case {
             Call::Decide => release::answers::decide(&self.base, 0, at, &self.group).into(),
             Call::Report => number(release::answers::report(&self.base, at, out)),
             Call::Conflicts => number(release::answers::conflicts(&self.base, out)),
-            Call::Open => release::answers::sheet_open(&self.base, 0, &mut { self.sheet }).into(),
+            Call::Open => release::answers::sheet_open(&self.base, 0, self.lent_sheet(out)).into(),
             Call::Sign(user, role) => {
-                release::answers::sheet_sign(&self.base, user, role, &mut { self.sheet }).into()
+                release::answers::sheet_sign(&self.base, user, role, self.lent_sheet(out)).into()
             }
             Call::Ask => release::answers::sheet_ask(&self.base, at, &self.sheet).into(),
         }
@@ -94,9 +101,9 @@ impl Case {
             Call::Decide => twin::decide(&self.base, 0, self.at, &self.group).into(),
             Call::Report => number(twin::report(&self.base, self.at, out)),
             Call::Conflicts => number(twin::conflicts(&self.base, out)),
-            Call::Open => twin::sheet_open(&self.base, 0, &mut { self.sheet }).into(),
+            Call::Open => twin::sheet_open(&self.base, 0, self.lent_sheet(out)).into(),
             Call::Sign(user, role) => {
-                twin::sheet_sign(&self.base, user, role, &mut { self.sheet }).into()
+                twin::sheet_sign(&self.base, user, role, self.lent_sheet(out)).into()
             }
             Call::Ask => twin::sheet_ask(&self.base, self.at, &self.sheet).into(),
         }
@@ -108,9 +115,9 @@ impl Case {
             Call::Decide => model::decide(&self.base, 0, self.at, &self.group).into(),
             Call::Report => number(model::report(&self.base, self.at, out)),
             Call::Conflicts => number(model::conflicts(&self.base, out)),
-            Call::Open => model::sheet_open(&self.base, 0, &mut { self.sheet }).into(),
+            Call::Open => model::sheet_open(&self.base, 0, self.lent_sheet(out)).into(),
             Call::Sign(user, role) => {
-                model::sheet_sign(&self.base, user, role, &mut { self.sheet }).into()
+                model::sheet_sign(&self.base, user, role, self.lent_sheet(out)).into()
             }
             Call::Ask => model::sheet_ask(&self.base, self.at, &self.sheet).into(),
         }
