@@ -29,12 +29,26 @@ done : (b : List ℕ) (s : Sheet) (u r : ℕ) {with : Sheet} → signRefusal b (
 unfolding signed
 done b s u r e h = rw (e, h)
 
+-- the entry
+module _ (s : tie.Start) where
+  abbrev base : List ℕ
+  base = s .args .base .now
+
+  abbrev sheet : Sheet
+  sheet = s .args .s
+
+  abbrev user : ℕ
+  user = s .args .user
+
+  abbrev role : ℕ
+  role = s .args .role
+
 -- what a run knows past the refusal: how it was found, and that the room is for six entries
 record Run : Type 0 where
   start : tie.Start
   answer : ℕ
-  is : answer ≡ signRefusal (start .args .base .now) (heldOn (start .args .s)) (start .args .user) (start .args .role)
-  size : length (start .args .s .entries) ≡ 12
+  is : answer ≡ signRefusal (base start) (heldOn (sheet start)) (user start) (role start)
+  size : length (sheet start .entries) ≡ 12
 
 abbrev at-held : tie.After-held → tie.Start
 at-held c = c .before .before .before .before
@@ -48,14 +62,14 @@ at-refusal c =
       answer = c .sign-refusal .result;
       is =
           c .sign-refusal .ensures
-          ∙ ap (λ (g : List ℕ). signRefusal (s .args .base .now) g (s .args .user) (s .args .role)) (held .0);
+          ∙ ap (λ (g : List ℕ). signRefusal (base s) g (user s) (role s)) (held .0);
       size = held .1;
     }
 
 -- past the refusals the signing passes
 passing : (r : Run) → r .answer ≡ 0 →
-    let a = r .start .args in
-    Passes (a .base .now) (heldOn (a .s)) (a .user) (a .role)
+    let s = r .start in
+    Passes (base s) (heldOn (sheet s)) (user s) (role s)
 passing r h = sign-passes _ _ _ _ (sym (r .is) ∙ h)
 
 held-requires : tie.Need-held-requires
@@ -67,7 +81,7 @@ sign-refusal-requires c κs = search needs
 returns : tie.Need-returns
 returns c =
     let r = at-refusal (c .before) in
-    unchanged _ (r .start .args .s) _ _ (r .is) (c .if1 .taken)
+    unchanged _ (sheet (r .start)) _ _ (r .is) (c .if1 .taken)
 
 cast-with-entry : tie.Need-cast-with-entry
 cast-with-entry c =
