@@ -1,5 +1,5 @@
 -- Laws of rows of bits: a member added, rows without any, a row made bit by bit, and the rows made one by one.
-use Prim.Native.Nat.{ℕ, zero, suc, _+_, _^_, _≤_, _<_}
+use Prim.Native.Nat.{ℕ, _+_, _^_, _≤_, _<_}
 use mathlib.Core.Bool.{Bool, true, false, _&&_, _||_, cond, or-false}
 use mathlib.Core.Path.{_≡_, refl, sym}
 use mathlib.Core.Logic.{⊎-elim}
@@ -14,7 +14,7 @@ use lib.Seq.{getD-set-same, getD-set-other}
 use Rattle.folds.specs.Sets.{inSet, setBelow}
 use Rattle.folds.proofs.Bools.{met-or-not}
 use Rattle.folds.proofs.Numbers.{sum-zero}
-use Rattle.folds.proofs.Lists.{stored}
+use Rattle.folds.proofs.Lists.{stored, zero-at}
 use Rattle.folds.proofs.Sets.{in-none, in-added}
 use Rattle.folds.proofs.Gathers.{Gathered, one-added, one-passed, gathered-below}
 use Rattle.conflicts.specs.Rows.{Rows}
@@ -22,11 +22,6 @@ use Rattle.conflicts.specs.Rows.{Rows}
 -- sets of which all are 0 are empty
 pub empty-sets : (n s t : ℕ) → inSet (getD (replicate {A = ℕ} n 0) s 0) t ≡ false
 empty-sets n s t = rw (zero-at n s) (in-none t)
-  where
-    zero-at : (n s : ℕ) → getD (replicate {A = ℕ} n 0) s 0 ≡ 0
-    zero-at zero s = refl
-    zero-at (suc n) zero = refl
-    zero-at (suc n) (suc s) = zero-at n s
 
 -- q is added to the set of p
 pub set-added : (w : List ℕ) (i v p q : ℕ) → i ≡ p → v ≡ 2 ^ q → p < length w → (s t : ℕ) →

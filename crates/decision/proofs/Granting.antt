@@ -15,7 +15,7 @@ use Rattle.folds.proofs.Tests.{any-at, any-each, any-same}
 use Rattle.folds.proofs.Numbers.{sum-same, sum-le, count-same}
 use Rattle.folds.specs.Sets.{inSet}
 use Rattle.folds.proofs.Sets.{in-set}
-use Rattle.reader.specs.Tables.{users, clauses, roleCount, permissionCount, tableOf}
+use Rattle.reader.specs.Tables.{users, clauses, roleCount, permissionCount, tableOf, userCount}
 use Rattle.reader.specs.Rules.{refusalOf}
 use Rattle.weights.specs.declared.Context.{Context}
 use Rattle.weights.specs.Contexts.{outOfRange}
@@ -25,7 +25,7 @@ use Rattle.weights.specs.Acting.{mayAct, mayActBy}
 use Rattle.decision.specs.Groups.{entryCount, entryUser, entryRole, sumOf, actedIn, rolesOf}
 use Rattle.decision.specs.Groups.{lengthRefused, unknownAt, someUnknown, standsBefore, someTwice, someIneligible}
 use Rattle.decision.specs.Groups.{someWeightless, membersRefusal, groupRefusal}
-use Rattle.decision.specs.Decision.{userCount, groupDecision, decisionOf}
+use Rattle.decision.specs.Decision.{groupDecision, decisionOf}
 use Rattle.decision.specs.Conditions.{roleNum, permissionHolds}
 use Rattle.decision.specs.Granting.{Granted, GrantedBy}
 

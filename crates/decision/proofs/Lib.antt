@@ -1,3 +1,2 @@
 pub mod Agree
 pub mod Granting
-pub mod Users

@@ -3,7 +3,7 @@ use Prim.Native.Nat.{ℕ}
 use mathlib.Core.Bool.{Bool, not, cond}
 use mathlib.Core.List.{List}
 use lib.Dec.{ltb, eqb}
-use Rattle.reader.specs.Tables.{users, clauses, roleCount, permissionCount, recordCount, tableOf}
+use Rattle.reader.specs.Tables.{clauses, roleCount, userCount, permissionCount, tableOf}
 use Rattle.reader.specs.Rules.{refusalOf}
 use Rattle.weights.specs.declared.Context.{Context}
 use Rattle.weights.specs.Contexts.{outOfRange}
@@ -15,10 +15,6 @@ use Rattle.decision.specs.Groups.{membersRefusal, groupRefusal}
 -- user u may stand in a group for permission p in role r, in this context: u may act in r
 abbrev pub eligible : List ℕ → Context → ℕ → ℕ → ℕ → Bool
 eligible b at p u r = mayAct b u r
-
--- the number of users
-abbrev pub userCount : List ℕ → ℕ
-userCount b = recordCount users (tableOf b users)
 
 -- refusals 12 to 15 by the base's users and roles and by who may act
 abbrev pub membersOf : List ℕ → List ℕ → ℕ

@@ -4,12 +4,12 @@ use mathlib.Core.Bool.{Bool, true}
 use mathlib.Core.Path.{_≡_}
 use mathlib.Core.List.{List}
 use lib.ListN.{length}
-use Rattle.reader.specs.Tables.{clauses, roleCount, tableOf}
+use Rattle.reader.specs.Tables.{clauses, roleCount, tableOf, userCount}
 use Rattle.weights.specs.declared.Context.{Context}
 use Rattle.weights.specs.Weights.{weight}
 use Rattle.decision.specs.Conditions.{permissionHolds}
 use Rattle.decision.specs.Groups.{entryCount, entryUser, entryRole, sumOf, rolesOf}
-use Rattle.decision.specs.Decision.{eligible, userCount}
+use Rattle.decision.specs.Decision.{eligible}
 
 -- 1 to 6 whole entries of different users, users and roles that are there, each user eligible in the role, each role's
 -- weight above 0, and the condition holds of number, sum and set

@@ -6,7 +6,7 @@ ghost use Prim.Native.Nat.{_<_};
 ghost use Rattle.reader.specs.Tables.{permissionCount};
 ghost use Rattle.reader.specs.Rules.{refusalOf};
 ghost use Rattle.weights.specs.Setting.{FixedBy};
-ghost use Rattle.decision.specs.Decision.{userCount, membersOf, groupDecision, decisionOf};
+ghost use Rattle.decision.specs.Decision.{membersOf, groupDecision, decisionOf};
 
 pub mod conditions;
 pub mod groups;
@@ -29,14 +29,6 @@ pub fn decide(base: &[u8], permission: u32, at: Context, group: &[u8]) -> u8
     decide_checked(base, permission as u8, s, group)
 }
 
-// Inner: the number of users of an accepted base.
-pub fn user_count(base: &[u8]) -> usize
-    requires { ⌜ refusalOf (now base) ≡ 0 ⌝ }
-    ensures { λ r. ⌜ r ≡ userCount (now (base .entry)) ⌝ }
-{
-    reader::trailer::part(base, reader::USERS).len() / 4
-}
-
 // Inner: refusals 12 to 15 for an accepted base, or 0.
 pub fn members_refusal(base: &[u8], group: &[u8]) -> u8
     requires { ⌜ refusalOf (now base) ≡ 0 ⌝ }
@@ -46,7 +38,7 @@ pub fn members_refusal(base: &[u8], group: &[u8]) -> u8
         return 12;
     }
     let roles = reader::trailer::role_count(base);
-    if groups::some_unknown(group, user_count(base), roles) {
+    if groups::some_unknown(group, reader::trailer::user_count(base), roles) {
         return 13;
     }
     if groups::some_twice(group) {

@@ -1,12 +1,12 @@
--- Laws of lists joined below n, and of stores into a list.
-use Prim.Native.Nat.{ℕ, zero, suc, _+_, _<_, _≤_}
+-- Laws of lists joined below n, of stores into a list, and of lists of one number alone.
+use Prim.Native.Nat.{ℕ, zero, suc, _+_, _-_, _<_, _≤_}
 use mathlib.Core.Path.{_≡_, refl, ap, _∙_}
 use mathlib.Core.Logic.{⊎-elim}
 use mathlib.Core.List.{List, [], _∷_, _++_, append-nil}
 use native.Mathlib.Numerals.{add-one}
 use native.Mathlib.Nat.{add-zero, eq-or-lt-of-le, le-of-suc-le-suc}
 use native.Mathlib.Omega.{arith}
-use lib.ListN.{length, getD, set, length-append}
+use lib.ListN.{length, getD, set, drop, replicate, length-append}
 use lib.Seq.{sets, getD-set-same, getD-set-other}
 use lib.Dec.{eqb}
 use borrow.Author.Tests.{eqb-true, eqb-false}
@@ -59,3 +59,14 @@ sets-append l i [] ys = rw add-zero
 sets-append l i (x ∷ xs) ys =
     let with = set l i x in
     sets-append with (suc i) xs ys ∙ ap (λ k. sets (sets with (suc i) xs) k ys) (omega arith)
+
+-- a list of one number alone: what is left of it, and what stands in one of zeros
+pub drop-replicate : (a n m : ℕ) → drop n (replicate m a) ≡ replicate (m - n) a
+drop-replicate a zero m = let e : m - 0 ≡ m = omega arith in rw e
+drop-replicate a (suc n) zero = let e : 0 - suc n ≡ 0 = omega arith in rw e
+drop-replicate a (suc n) (suc m) = let e : suc m - suc n ≡ m - n = omega arith in rw e (drop-replicate a n m)
+
+pub zero-at : (n i : ℕ) → getD {A = ℕ} (replicate n 0) i 0 ≡ 0
+zero-at zero i = refl
+zero-at (suc n) zero = refl
+zero-at (suc n) (suc i) = zero-at n i

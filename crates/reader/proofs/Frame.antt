@@ -14,7 +14,7 @@ use Rattle.folds.proofs.Tests.{all-at, any-at}
 use Rattle.folds.proofs.Numbers.{sum-step, sum-le-sum}
 use Rattle.reader.specs.Tables.{width, limit, trailer, tableOffset, tableCount, tableSize, tableStart, roleCount}
 use Rattle.reader.specs.Tables.{tableBad, tablesBad, rolesBad, reservedBad, trailerBad, lengthBad, lettersBad}
-use Rattle.reader.specs.Tables.{frameRefusal, partOf, tableOf, recordCount, permissionCount}
+use Rattle.reader.specs.Tables.{frameRefusal, partOf, tableOf, recordCount, userCount, permissionCount}
 
 pub width-le : (t : ℕ) → t < 7 → width t ≤ 16
 unfolding allBelow
@@ -111,6 +111,10 @@ module _ (b : List ℕ) (ok : frameRefusal b ≡ 0) (t : ℕ) (there : t < 7) wh
   -- the number of records in it is the trailer's count
   pub record-count : recordCount t (tableOf b t) ≡ tableCount b t
   record-count = rw table-length (mul-div-cancel (tableCount b t) (width-pos t there))
+
+-- there are at most 24 users
+pub users-le : (b : List ℕ) → frameRefusal b ≡ 0 → userCount b ≤ 24
+users-le b ok = rw (record-count b ok 1 (lit< tt)) (count-limit b ok 1 (lit< tt))
 
 -- there are at most 16 permissions
 pub permissions-le : (b : List ℕ) → frameRefusal b ≡ 0 → permissionCount b ≤ 16

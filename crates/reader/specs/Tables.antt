@@ -124,6 +124,10 @@ tableOf b t = cond (eqb (frameRefusal b) 0 && ltb t 7) (partOf b (tableOffset b 
 abbrev pub recordCount : ℕ → List ℕ → ℕ
 recordCount t r = length r / width t
 
+-- the number of users
+abbrev pub userCount : List ℕ → ℕ
+userCount b = recordCount users (tableOf b users)
+
 -- the number of permissions
 abbrev pub permissionCount : List ℕ → ℕ
 permissionCount b = recordCount permissions (tableOf b permissions)

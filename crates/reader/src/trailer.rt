@@ -1,11 +1,13 @@
 // The trailer: refusals 1 to 3, and where the tables lie.
 use crate::PERMISSIONS;
+use crate::USERS;
 use crate::bytes;
 ghost use mathlib.Core.Path.{_≡_};
 ghost use Prim.Native.Nat.{_≤_, _<_};
 ghost use lib.ListN.{length};
 ghost use Rattle.reader.specs.Tables.{width, limit, tableOffset, tableCount, roleCount, lengthBad, lettersBad};
-ghost use Rattle.reader.specs.Tables.{reservedBad, tablesBad, trailerBad, frameRefusal, tableOf, permissionCount};
+ghost use Rattle.reader.specs.Tables.{reservedBad, tablesBad, trailerBad, frameRefusal, tableOf};
+ghost use Rattle.reader.specs.Tables.{userCount, permissionCount};
 
 // Bytes a record, and records at most, by table.
 const WIDTHS: [usize; 7] = [2, 4, 2, 16, 16, 8, 3];
@@ -141,6 +143,14 @@ pub fn part(base: &[u8], t: usize) -> &[u8]
     let a = table_offset(base, t);
     let e = a + table_count(base, t) * width_of(t);
     &base[a..e]
+}
+
+// Inner: the number of users of a base that passed 1 to 3.
+pub fn user_count(base: &[u8]) -> usize
+    requires { ⌜ frameRefusal (now base) ≡ 0 ⌝ }
+    ensures { λ r. ⌜ r ≡ userCount (now (base .entry)) ⌝ }
+{
+    part(base, USERS).len() / 4
 }
 
 // Inner: the number of permissions of a base that passed 1 to 3.

@@ -14,13 +14,12 @@ use Rattle.folds.proofs.Lists.{join-same, join-length}
 use Rattle.folds.proofs.Numbers.{sum-le, count-le}
 use Rattle.reader.specs.Tables.{permissionCount}
 use Rattle.reader.specs.Rules.{refusalOf}
-use Rattle.reader.proofs.Frame.{roles-range, permissions-le}
+use Rattle.reader.proofs.Frame.{roles-range, permissions-le, users-le}
 use Rattle.reader.proofs.Accepted.{accepted-frame}
 use Rattle.weights.specs.declared.Context.{Context}
 use Rattle.weights.specs.Contexts.{outOfRange}
 use Rattle.decision.specs.Groups.{entryCount, entryUser, entryRole}
 use Rattle.decision.proofs.Granting.{granted-by}
-use Rattle.decision.proofs.Users.{users-le}
 use Rattle.report.specs.Smallest.{smallestOf}
 use Rattle.report.specs.Report.{reportRefusal, releasable, partBytes, reportBytes, ShownFor}
 use Rattle.report.specs.Demand.{numberFor, groupFor}

@@ -14,13 +14,12 @@ use lib.Seq.{drop-cons}
 use Rattle.folds.specs.Below.{anyBelow, firstBelow}
 use Rattle.folds.proofs.Bools.{met-or-not, clash}
 use Rattle.folds.proofs.Tests.{any-found, any-some, first-least, first-lt, first-at}
-use Rattle.reader.proofs.Frame.{roles-range}
+use Rattle.reader.proofs.Frame.{roles-range, users-le}
 use Rattle.reader.proofs.Accepted.{accepted-frame}
 use Rattle.weights.specs.declared.Context.{Context}
 use Rattle.decision.specs.Decision.{decisionOf}
 use Rattle.decision.specs.Groups.{entryCount}
 use Rattle.decision.proofs.Granting.{granted-by}
-use Rattle.decision.proofs.Users.{users-le}
 use Rattle.report.specs.Smallest.{someGranted, smallest}
 
 -- `granted` grants only groups of 1 to 6 whole entries of bytes

@@ -13,9 +13,9 @@ use lib.ListN.{length, getD, replicate, List·getD-eq-default}
 use Rattle.folds.specs.Sets.{inSet}
 use Rattle.folds.proofs.Bools.{met-or-not}
 use Rattle.folds.proofs.Sets.{in-set, in-none}
-use Rattle.reader.specs.Tables.{users, clauses, roleCount, permissionCount, tableOf}
+use Rattle.reader.specs.Tables.{users, clauses, roleCount, permissionCount, tableOf, userCount}
 use Rattle.reader.specs.Rules.{refusalOf}
-use Rattle.reader.proofs.Frame.{roles-range}
+use Rattle.reader.proofs.Frame.{roles-range, users-le}
 use Rattle.reader.proofs.Accepted.{accepted-frame}
 use Rattle.weights.specs.declared.Context.{Context}
 use Rattle.weights.specs.Contexts.{outOfRange}
@@ -24,11 +24,10 @@ use Rattle.weights.specs.Acting.{mayAct}
 use Rattle.weights.specs.Setting.{AreWeights}
 use Rattle.weights.proofs.Known.{acting-known}
 use Rattle.weights.proofs.Weigh.{weights-le, weight-high}
-use Rattle.decision.specs.Decision.{eligible, userCount, decisionOf}
+use Rattle.decision.specs.Decision.{eligible, decisionOf}
 use Rattle.decision.specs.Conditions.{permissionHolds}
 use Rattle.decision.specs.Granting.{Granted}
 use Rattle.decision.proofs.Granting.{granted-by}
-use Rattle.decision.proofs.Users.{users-le}
 use Rattle.report.specs.Smallest.{smallestOf}
 use Rattle.seek.specs.Search.{Answered}
 use Rattle.masks.specs.Sets.{RoleCounts}

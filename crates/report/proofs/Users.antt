@@ -11,12 +11,12 @@ use Rattle.folds.specs.Below.{anyBelow, countBelow}
 use Rattle.folds.proofs.Bools.{met-or-not}
 use Rattle.folds.proofs.Tests.{any-each}
 use Rattle.folds.proofs.Numbers.{sum-same, sum-zero, sum-pick}
+use Rattle.reader.proofs.Frame.{users-le}
 use Rattle.reader.proofs.Accepted.{accepted-frame}
 use Rattle.weights.specs.declared.Context.{Context}
 use Rattle.decision.specs.Decision.{decisionOf}
 use Rattle.decision.specs.Groups.{entryCount, entryUser}
 use Rattle.decision.proofs.Granting.{granted-by}
-use Rattle.decision.proofs.Users.{users-le}
 use Rattle.report.specs.Demand.{userNum}
 
 -- a test met by one number more holds of one more

@@ -228,7 +228,7 @@ fn fill_in(
         ⌝ }
 {
     let d = reader::trailer::role_count(base);
-    let users = reader::trailer::part(base, reader::USERS).len() / 4;
+    let users = reader::trailer::user_count(base);
     let nexts = ends::next_ends(sets, users);
     let chosen = weights::chosen(base, s);
     let own = chosen.own;

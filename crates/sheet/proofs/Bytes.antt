@@ -1,13 +1,14 @@
 -- 14 bytes are a sheet and a sheet is its bytes; a refused signing leaves them as they were.
 use Prim.Native.Nat.{ℕ}
-use mathlib.Core.Path.{_≡_, refl}
+use mathlib.Core.Path.{_≡_, refl, sym, ap}
 use mathlib.Core.List.{List, [], _∷_}
 use native.Mathlib.Omega.{arith}
 use lib.ListN.{length}
-use borrow.Author.Tests.{ne-eqb}
 use Rattle.sheet.specs.declared.Sheet.{Sheet}
-use Rattle.sheet.specs.Sheets.{heldOn, signRefusal, signed}
+use Rattle.sheet.specs.declared.Outcome.{Outcome}
+use Rattle.sheet.specs.Sheets.{signed}
 use Rattle.sheet.specs.Form.{bytesOf, sheetOf}
+use Rattle.sheet.proofs.Passing.{signed-refused}
 
 pub bytes-of-sheet : (bytes : List ℕ) → length bytes ≡ 14 → bytesOf (sheetOf bytes) ≡ bytes
 bytes-of-sheet [] h = absurd (omega (arith, h))
@@ -21,4 +22,4 @@ module _ (b : List ℕ) (s : Sheet) (u r : ℕ) where
   -- a refused signing gives the sheet as it was, every byte
   pub refused-same : (signed b s u r .refusal ≡ 0 → ⊥) → signed b s u r .sheet ≡ s
   unfolding signed
-  refused-same h = rw (ne-eqb (signRefusal b (heldOn s) u r) 0 h)
+  refused-same h = sym (ap (λ (o : Outcome). o .sheet) (signed-refused b s u r refl h))

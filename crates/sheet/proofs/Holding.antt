@@ -13,7 +13,7 @@ use Rattle.decision.specs.Groups.{entryCount}
 use Rattle.sheet.specs.Sheets.{heldCount}
 
 -- at most six are held
-pub held-few : (n : ℕ) → heldCount n ≤ 6
+held-few : (n : ℕ) → heldCount n ≤ 6
 held-few n =
     ⊎-elim (λ h. rw h (omega arith)) (λ h. rw h (let l = ltb-false 6 n h in omega arith)) (met-or-not (ltb 6 n))
 
@@ -21,7 +21,7 @@ module _ (n : ℕ) (entries : List ℕ) (size : length entries ≡ 12) where
   pub held-length : length (take (2 * heldCount n) entries) ≡ 2 * heldCount n
   held-length = let few = held-few n in length-take-le (2 * heldCount n) entries (omega (arith, size))
 
-  pub held-entries : entryCount (take (2 * heldCount n) entries) ≡ heldCount n
+  held-entries : entryCount (take (2 * heldCount n) entries) ≡ heldCount n
   held-entries = omega (arith, held-length)
 
   -- where fewer than six are held, no more are claimed

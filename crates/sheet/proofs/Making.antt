@@ -1,5 +1,5 @@
 -- The laws of the sheets that calls made.
-use Prim.Native.Nat.{ℕ, zero, suc, _+_, _*_, _-_, _≤_}
+use Prim.Native.Nat.{ℕ, _+_, _*_, _-_, _≤_}
 use mathlib.Core.Bool.{true}
 use mathlib.Core.Path.{_≡_, refl, sym, ap, _∙_}
 use mathlib.Core.Logic.{_↔_}
@@ -9,6 +9,7 @@ use borrow.Author.Tests.{eqb-true, eq-eqb, ne-eqb}
 use lib.ListN.{length, getD, length-append, replicate, length-replicate}
 use lib.Seq.{getD-append-add}
 use lib.Dec.{eqb}
+use Rattle.folds.proofs.Lists.{zero-at}
 use Rattle.weights.specs.declared.Context.{Context}
 use Rattle.decision.specs.Groups.{entryCount}
 use Rattle.decision.specs.Decision.{decisionOf}
@@ -84,11 +85,6 @@ made-sign s m b u r =
     }
 
 -- a sheet that holds at most six signings of different users is orderly
-zero-at : (n i : ℕ) → getD {A = ℕ} (replicate n 0) i 0 ≡ 0
-zero-at zero i = refl
-zero-at (suc n) zero = refl
-zero-at (suc n) (suc i) = zero-at n i
-
 with-clear : (p : ℕ) (xs : List Signing) (i : ℕ) → 2 * length xs ≤ i → getD (sheetWith p xs .entries) i 0 ≡ 0
 unfolding sheetWith
 with-clear p xs i h =

@@ -1,18 +1,19 @@
--- A signing passes exactly if none of its refusals applies.
+-- What signing gives, and that it passes exactly if none of its refusals applies.
 use Prim.Native.Nat.{ℕ, _<_}
 use mathlib.Core.Bool.{Bool, true, false, not, cond}
 use mathlib.Core.Path.{_≡_, refl}
 use mathlib.Core.List.{List}
 use native.Mathlib.Nat.{suc-ne-zero}
-use borrow.Author.Tests.{ltb-true, lt-ltb, eqb-true, eqb-false, not-false}
+use borrow.Author.Tests.{ltb-true, lt-ltb, eqb-true, eqb-false, ne-eqb, not-false}
 use lib.Dec.{ltb, eqb}
 use Rattle.folds.proofs.Bools.{or-left, or-right}
-use Rattle.reader.specs.Tables.{roleCount}
+use Rattle.reader.specs.Tables.{roleCount, userCount}
 use Rattle.reader.specs.Rules.{refusalOf}
 use Rattle.weights.specs.Acting.{mayAct}
 use Rattle.decision.specs.Groups.{entryCount}
-use Rattle.decision.specs.Decision.{userCount}
-use Rattle.sheet.specs.Sheets.{standsIn, signRefusal}
+use Rattle.sheet.specs.declared.Sheet.{Sheet}
+use Rattle.sheet.specs.declared.Outcome.{Outcome}
+use Rattle.sheet.specs.Sheets.{heldOn, standsIn, signRefusal, withEntry, signed}
 
 -- none of 1 to 9, 13, 14, 15 and 20 applies
 pub record Passes (b held : List ℕ) (u r : ℕ) : Type 0 where
@@ -22,6 +23,18 @@ pub record Passes (b held : List ℕ) (u r : ℕ) : Type 0 where
   pub new : standsIn held u ≡ false
   pub acting : mayAct b u r ≡ true
   pub room : entryCount held < 6
+
+-- a refused signing gives the sheet as it was, one that isn't refused the sheet with the entry
+module _ (b : List ℕ) (s : Sheet) (u r : ℕ) where
+  pub signed-refused : {n : ℕ} → n ≡ signRefusal b (heldOn s) u r → (n ≡ 0 → ⊥) →
+      _≡_ {A = Outcome} (record { refusal = n; sheet = s }) (signed b s u r)
+  unfolding signed
+  signed-refused {n} e h = rw (← e, ne-eqb n 0 h)
+
+  pub signed-done : {with : Sheet} → signRefusal b (heldOn s) u r ≡ 0 → with ≡ withEntry s u r →
+      _≡_ {A = Outcome} (record { refusal = 0; sheet = with }) (signed b s u r)
+  unfolding signed
+  signed-done e h = rw (e, h)
 
 none-of : (m : ℕ) (p q r s : Bool) →
     cond (not (eqb m 0)) m (cond p 13 (cond q 14 (cond r 15 (cond s 20 0)))) ≡ 0 →

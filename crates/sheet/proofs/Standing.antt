@@ -10,6 +10,7 @@ use lib.Seq.{sets, sets-eq, take-at, drop-append-add}
 use lib.Dec.{eqb}
 use Rattle.folds.proofs.Bools.{or-left, or-right, or-neither, same-failure}
 use Rattle.folds.proofs.Tests.{any-at, any-each}
+use Rattle.folds.proofs.Lists.{drop-replicate}
 use Rattle.decision.specs.Groups.{entryCount, entryUser}
 use Rattle.sheet.specs.Sheets.{heldOn, standsIn, withEntry}
 use Rattle.sheet.specs.Signings.{Signing, signedBy, entriesOf, sheetWith}
@@ -69,11 +70,6 @@ held-with p xs few =
 abbrev zeros : ℕ → List ℕ
 zeros n = replicate n 0
 
-drop-zeros : (n m : ℕ) → drop n (zeros m) ≡ zeros (m - n)
-drop-zeros zero m = let e : m - 0 ≡ m = omega arith in rw e
-drop-zeros (suc n) zero = let e : 0 - suc n ≡ 0 = omega arith in rw e
-drop-zeros (suc n) (suc m) = let e : suc m - suc n ≡ m - n = omega arith in rw e (drop-zeros n m)
-
 put-behind : (held : List ℕ) (n u r : ℕ) → length held ≡ 2 * n → n < 6 →
     sets (held ++ zeros (12 - 2 * n)) (2 * n) (u ∷ r ∷ []) ≡ held ++ (u ∷ r ∷ []) ++ zeros (12 - 2 * (n + 1))
 put-behind held n u r size room =
@@ -84,7 +80,7 @@ put-behind held n u r size room =
     let head : take (2 * n) all ≡ held = take-at held rest (2 * n) size in
     let less : 12 - 2 * n - 2 ≡ 12 - 2 * (n + 1) = omega arith in
     let tail : drop (2 * n + 2) all ≡ zeros (12 - 2 * (n + 1)) =
-    ap (λ (k : ℕ). drop (k + 2) all) (sym size) ∙ drop-append-add held rest 2 ∙ drop-zeros 2 (12 - 2 * n)
+    ap (λ (k : ℕ). drop (k + 2) all) (sym size) ∙ drop-append-add held rest 2 ∙ drop-replicate 0 2 (12 - 2 * n)
     ∙ ap zeros less in
     sets-eq (u ∷ r ∷ []) all (2 * n) fits ∙ rw (head, tail)
 

@@ -6,12 +6,12 @@ use lib.ListN.{take, replicate}
 use lib.Seq.{sets}
 use lib.Dec.{ltb, eqb}
 use Rattle.folds.specs.Below.{anyBelow}
-use Rattle.reader.specs.Tables.{roleCount, permissionCount}
+use Rattle.reader.specs.Tables.{roleCount, permissionCount, userCount}
 use Rattle.reader.specs.Rules.{refusalOf}
 use Rattle.weights.specs.declared.Context.{Context}
 use Rattle.weights.specs.Acting.{mayAct}
 use Rattle.decision.specs.Groups.{entryCount, entryUser, unknown}
-use Rattle.decision.specs.Decision.{userCount, decisionOf}
+use Rattle.decision.specs.Decision.{decisionOf}
 use Rattle.sheet.specs.declared.Sheet.{Sheet}
 use Rattle.sheet.specs.declared.Outcome.{Outcome}
 

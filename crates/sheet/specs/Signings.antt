@@ -5,11 +5,10 @@ use mathlib.Core.Path.{_≡_}
 use mathlib.Core.List.{List, [], _∷_, _++_}
 use lib.ListN.{length, getD, replicate}
 use lib.Dec.{ltb, eqb}
-use Rattle.reader.specs.Tables.{roleCount}
+use Rattle.reader.specs.Tables.{roleCount, userCount}
 use Rattle.reader.specs.Rules.{refusalOf}
 use Rattle.weights.specs.Acting.{mayAct}
 use Rattle.decision.specs.Groups.{entryCount, entryUser}
-use Rattle.decision.specs.Decision.{userCount}
 use Rattle.sheet.specs.declared.Sheet.{Sheet}
 use Rattle.sheet.specs.Sheets.{heldOn, opened, signed}
 

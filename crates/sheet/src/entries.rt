@@ -3,11 +3,10 @@ ghost use mathlib.Core.Path.{_≡_};
 ghost use mathlib.Core.Bool.{not};
 ghost use Prim.Native.Nat.{_*_};
 ghost use lib.ListN.{length, take};
-ghost use Rattle.reader.specs.Tables.{roleCount};
+ghost use Rattle.reader.specs.Tables.{roleCount, userCount};
 ghost use Rattle.reader.specs.Rules.{refusalOf};
 ghost use Rattle.weights.specs.Acting.{mayAct};
 ghost use Rattle.decision.specs.Groups.{unknown};
-ghost use Rattle.decision.specs.Decision.{userCount};
 ghost use Rattle.sheet.specs.Sheets.{heldCount, standsIn, signRefusal};
 
 // Inner: the bytes of the entries held, of a sheet that claims this many.
@@ -27,7 +26,7 @@ fn is_unknown(base: &[u8], user: u32, role: u32) -> bool
     requires { ⌜ refusalOf (now base) ≡ 0 ⌝ }
     ensures { λ r. ⌜ r ≡ unknown (userCount (now (base .entry))) (roleCount (now (base .entry))) user role ⌝ }
 {
-    if decision::user_count(base) <= user as usize {
+    if reader::trailer::user_count(base) <= user as usize {
         return true;
     }
     reader::trailer::role_count(base) as u32 <= role

@@ -7,7 +7,7 @@ use mathlib.Core.Path.{_≡_, sym, _∙_}
 use native.Mathlib.Nat.{lt-of-lt-of-le}
 use lib.ListN.{length}
 use Rattle.folds.proofs.Bools.{met, passed, refused, unrefused}
-use Rattle.reader.specs.Tables.{clauses, roleCount, tableOf, frameRefusal}
+use Rattle.reader.specs.Tables.{clauses, roleCount, tableOf, frameRefusal, userCount}
 use Rattle.reader.specs.Rules.{refusalOf}
 use Rattle.reader.proofs.Frame.{roles-range, permissions-le}
 use Rattle.reader.proofs.Accepted.{accepted, clause-fine}
@@ -19,7 +19,7 @@ use Rattle.weights.specs.Acting.{mayAct}
 use Rattle.weights.proofs.Weigh.{weights-le}
 use Rattle.decision.specs.Conditions.{permissionHolds}
 use Rattle.decision.specs.Groups.{entryCount, entryRole, sumOf, rolesOf, someWeightless, groupRefusal}
-use Rattle.decision.specs.Decision.{userCount, membersOf, groupDecision}
+use Rattle.decision.specs.Decision.{membersOf, groupDecision}
 use Rattle.decision.proofs.Granting.{Members, members-of, role-below, short-enough}
 use Rattle.decision.proofs.Granting.{weightless-same, sum-weights, condition-same}
 use borrow.Author.Needs.{needs}

@@ -5,13 +5,12 @@ use mathlib.Core.Bool.{Bool, false, cond}
 use mathlib.Core.List.{List}
 use mathlib.Core.Path.{_≡_, sym, _∙_}
 use Rattle.folds.proofs.Bools.{met, passed}
-use Rattle.reader.specs.Tables.{roleCount, frameRefusal}
-use Rattle.reader.specs.Rules.{refusalOf}
+use Rattle.reader.specs.Tables.{roleCount, frameRefusal, userCount}
 use Rattle.reader.proofs.Frame.{framed, roles-range}
 use Rattle.reader.proofs.Accepted.{accepted}
 use Rattle.weights.specs.Acting.{mayAct}
 use Rattle.decision.specs.Groups.{lengthRefused, someUnknown, someTwice, someIneligible, membersRefusal}
-use Rattle.decision.specs.Decision.{userCount, membersOf}
+use Rattle.decision.specs.Decision.{membersOf}
 use Rattle.decision.proofs.Granting.{unknown-same, ineligible-same}
 use borrow.Author.Needs.{needs}
 use Rattle.decision.proofs.members_refusal.Statement.{statement}
@@ -25,11 +24,8 @@ module _ (s : tie.Start) where
   abbrev group : List ℕ
   group = s .args .group .now
 
-  ok : refusalOf base ≡ 0
-  ok = s .pre
-
   frame : frameRefusal base ≡ 0
-  frame = accepted _ ok .frame
+  frame = accepted _ (s .pre) .frame
 
   abbrev unknown : Bool
   unknown = someUnknown (userCount base) (roleCount base) group
@@ -133,7 +129,7 @@ role-count-requires : tie.Need-role-count-requires
 role-count-requires c κs = framed _ (frame (past12 c)) .long
 
 user-count-requires : tie.Need-user-count-requires
-user-count-requires c κs = ok (at-roles c .start)
+user-count-requires c κs = frame (at-roles c .start)
 
 some-unknown-requires : tie.Need-some-unknown-requires
 some-unknown-requires c κs = search needs

@@ -5,29 +5,15 @@ use mathlib.Core.Path.{_≡_, ap, sym, _∙_}
 use native.Mathlib.Nat.{lt-of-lt-of-le}
 use native.Mathlib.Omega.{arith}
 use lib.ListN.{length}
-use borrow.Author.Tests.{ne-eqb}
-use Rattle.reader.proofs.Frame.{roles-range}
+use Rattle.reader.proofs.Frame.{roles-range, users-le}
 use Rattle.reader.proofs.Accepted.{accepted-frame}
-use Rattle.decision.proofs.Users.{users-le}
 use Rattle.sheet.specs.declared.Sheet.{Sheet}
-use Rattle.sheet.specs.declared.Outcome.{Outcome}
-use Rattle.sheet.specs.Sheets.{heldOn, signRefusal, withEntry, signed}
-use Rattle.sheet.proofs.Passing.{Passes, sign-passes}
+use Rattle.sheet.specs.Sheets.{heldOn, signRefusal}
+use Rattle.sheet.proofs.Passing.{Passes, sign-passes, signed-refused, signed-done}
 use Rattle.sheet.proofs.Holding.{room-claimed}
 use borrow.Author.Needs.{needs}
 use Rattle.sheet.proofs.sign.Statement.{statement}
 use Rattle.sheet.proofs.sign.Tie as tie
-
--- a refused signing gives the sheet as it was, one that passes the sheet with the entry
-unchanged : (b : List ℕ) (s : Sheet) (u r : ℕ) {n : ℕ} → n ≡ signRefusal b (heldOn s) u r → (n ≡ 0 → ⊥) →
-    _≡_ {A = Outcome} (record { refusal = n; sheet = s }) (signed b s u r)
-unfolding signed
-unchanged b s u r {n} e h = rw (← e, ne-eqb n 0 h)
-
-done : (b : List ℕ) (s : Sheet) (u r : ℕ) {with : Sheet} → signRefusal b (heldOn s) u r ≡ 0 → with ≡ withEntry s u r →
-    _≡_ {A = Outcome} (record { refusal = 0; sheet = with }) (signed b s u r)
-unfolding signed
-done b s u r e h = rw (e, h)
 
 -- the entry
 module _ (s : tie.Start) where
@@ -81,7 +67,7 @@ sign-refusal-requires c κs = search needs
 returns : tie.Need-returns
 returns c =
     let r = at-refusal (c .before) in
-    unchanged _ (sheet (r .start)) _ _ (r .is) (c .if1 .taken)
+    signed-refused _ (sheet (r .start)) _ _ (r .is) (c .if1 .taken)
 
 cast-with-entry : tie.Need-cast-with-entry
 cast-with-entry c =
@@ -103,7 +89,7 @@ with-entry-requires c κs =
 returns-2 : tie.Need-returns-2
 returns-2 c =
     let r = at-refusal (c .before .before) in
-    done _ _ _ _ (sym (r .is) ∙ c .before .if1 .left) (c .with-entry .ensures)
+    signed-done _ _ _ _ (sym (r .is) ∙ c .before .if1 .left) (c .with-entry .ensures)
 
 pub sign-spec : {M : Type 1} → statement M
 sign-spec =

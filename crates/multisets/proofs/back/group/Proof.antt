@@ -1,11 +1,11 @@
 -- `group` meets its contract: from the last entry to the first, each is the one by which the end came.
 use borrow.Author.Needs.{needs}
+use Rattle.folds.proofs.Lists.{drop-replicate}
 use Prim.Native.Nat.{ℕ, _+_, _-_, _*_, _/_, _%_, _≤_, _<_}
 use mathlib.Core.Path.{_≡_, refl, sym, ap, _∙_}
 use mathlib.Core.List.{List, _++_}
 use native.Mathlib.Omega.{arith}
-use lib.ListN.{length, getD, set, length-set, drop, replicate, length-replicate, replicate-append-replicate}
-use lib.Seq.{drop-at}
+use lib.ListN.{length, getD, set, length-set, replicate}
 use Rattle.multisets.specs.Standing.{bytesBack}
 use Rattle.multisets.specs.Ends.{Way, backOf}
 use Rattle.multisets.proofs.Bytes.{whole, turn-whole, turn-way, whole-is}
@@ -64,18 +64,11 @@ read-entry c = in-loop (c .before)
 abbrev read-end : tie.After-shared-slice-known2 Inv-loop μ-loop → Here
 read-end c = read-entry (c .before)
 
--- what is left of twelve bytes of 255
-left-over : (n : ℕ) → n ≤ 12 → drop n (replicate {A = ℕ} 12 255) ≡ replicate (12 - n) 255
-left-over n h =
-    let e : n + (12 - n) ≡ 12 = omega arith in
-    ap (drop n) (sym (replicate-append-replicate {A = ℕ} n (12 - n) 255 ∙ ap (λ (k : ℕ). replicate {A = ℕ} k 255) e))
-    ∙ drop-at (replicate {A = ℕ} n 255) (replicate {A = ℕ} (12 - n) 255) n (length-replicate {A = ℕ} n 255)
-
 all-is : (ends from : List ℕ) (n x : ℕ) → n ≤ 6 →
     whole ends from (replicate 12 255) n x ≡ bytesBack (backOf ends from n x) ++ replicate (12 - 2 * n) 255
 all-is ends from n x few =
     whole-is ends from (replicate 12 255) n x (omega arith)
-    ∙ ap (λ (k : List ℕ). bytesBack (backOf ends from n x) ++ k) (left-over (2 * n) (omega arith))
+    ∙ ap (λ (k : List ℕ). bytesBack (backOf ends from n x) ++ k) (drop-replicate 255 (2 * n) 12)
 
 -- a turn, by the bytes that it writes
 turn-same : (ends from out : List ℕ) (left x : ℕ) {user role : ℕ} → 0 < left →

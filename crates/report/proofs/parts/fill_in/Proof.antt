@@ -1,10 +1,10 @@
 -- `fill_in` meets its contract: what `fill_parts` asks for is worked out here, once a report.
 use borrow.Author.Needs.{needs}
-use Prim.Native.Nat.{ℕ, _/_, _^_, _≤_}
+use Prim.Native.Nat.{ℕ, _^_, _≤_}
 use mathlib.Core.Path.{_≡_, refl, _∙_}
 use mathlib.Core.List.{List}
 use native.Mathlib.Omega.{arith}
-use lib.ListN.{length, getD, List·getD-eq-default}
+use lib.ListN.{getD, List·getD-eq-default}
 use mathlib.Core.Bool.{false, cond}
 use mathlib.Core.Logic.{⊎-elim}
 use borrow.Author.Tests.{ltb-true, ltb-false}
@@ -12,21 +12,20 @@ use lib.Dec.{ltb}
 use Rattle.folds.specs.Sets.{setBelow}
 use Rattle.folds.proofs.Bools.{met-or-not}
 use Rattle.folds.proofs.Numbers.{sum-zero}
-use Rattle.reader.specs.Tables.{users, roleCount, tableOf, recordCount}
+use Rattle.reader.specs.Tables.{users, userCount, roleCount, tableOf}
 use Rattle.reader.specs.Rules.{refusalOf}
-use Rattle.reader.proofs.Frame.{framed, roles-range}
+use Rattle.reader.proofs.Frame.{framed, roles-range, users-le}
 use Rattle.reader.proofs.Accepted.{accepted-frame}
 use Rattle.weights.specs.Acting.{mayAct}
 use Rattle.weights.proofs.Known.{acting-known}
 use Rattle.masks.specs.Sets.{RoleCounts}
 use Rattle.multisets.specs.Levels.{Levels, Blank}
 use Rattle.report.specs.Parts.{ActingSets}
-use Rattle.decision.proofs.Users.{users-le}
 use Rattle.report.proofs.parts.fill_in.Statement.{statement}
 use Rattle.report.proofs.parts.fill_in.Tie as tie
 
 -- users that aren't there may act in no role
-idle : (b : List ℕ) (u : ℕ) → recordCount users (tableOf b users) ≤ u → setBelow 8 (mayAct b u) ≡ 0
+idle : (b : List ℕ) (u : ℕ) → userCount b ≤ u → setBelow 8 (mayAct b u) ≡ 0
 unfolding setBelow
 idle b u past = sum-zero (λ r. cond (mayAct b u r) (2 ^ r) 0) 8 (λ r l. rw (none r))
   where
@@ -37,10 +36,10 @@ idle b u past = sum-zero (λ r. cond (mayAct b u r) (2 ^ r) 0) 8 (λ r l. rw (no
         (met-or-not (mayAct b u r))
 
 module _ {b sets : List ℕ} (acting : ActingSets b sets) (ok : refusalOf b ≡ 0) where
-  few-users : {table : List ℕ} → table ≡ tableOf b users → length table / 4 ≤ 24
+  few-users : {n : ℕ} → n ≡ userCount b → n ≤ 24
   few-users e = rw e (users-le b (accepted-frame b ok))
 
-  idle-past : {table : List ℕ} → table ≡ tableOf b users → (u : ℕ) → length table / 4 ≤ u → getD sets u 0 ≡ 0
+  idle-past : {n : ℕ} → n ≡ userCount b → (u : ℕ) → n ≤ u → getD sets u 0 ≡ 0
   idle-past e u past = ⊎-elim
       (λ t. acting .user u (ltb-true u 24 t) ∙ idle b u (rw e at past))
       (λ t. List·getD-eq-default sets 0 (omega (arith, ltb-false u 24 t, acting .size)))
@@ -67,8 +66,8 @@ entered c = entered3 (c .before .before .before .before)
 abbrev at-roles : tie.After-role-count → tie.Start
 at-roles c = entered (c .before)
 
-abbrev at-part : tie.After-part → tie.Start
-at-part c = at-roles (c .before)
+abbrev at-users : tie.After-user-count → tie.Start
+at-users c = at-roles (c .before)
 
 abbrev at-chosen : tie.After-table → tie.After-chosen
 at-chosen c = c .before .before .before
@@ -80,7 +79,7 @@ abbrev at-role-counts : tie.After-wide → tie.After-role-counts
 at-role-counts c = c .before .before
 
 abbrev at-wide : tie.After-wide → tie.Start
-at-wide c = at-part (at-chosen (at-counts (at-role-counts c .before .before)) .before .before)
+at-wide c = at-users (at-chosen (at-counts (at-role-counts c .before .before)) .before .before)
 
 abbrev at-begin : tie.After-begin-arg4 → tie.After-wide
 at-begin c = c .before .before .before .before
@@ -97,11 +96,11 @@ at-fill4 c = c .before .before .before .before
 abbrev at-fill : tie.After-fill-parts-arg6 → tie.After-nexts
 at-fill c = at-fill4 (c .before .before)
 
-few-roles : (c : tie.After-part) → c .before .role-count .result ≤ 8
-few-roles c = rw (c .before .role-count .ensures) (roles-range _ (accepted-frame _ (at-part c .pre .0)) .1)
+few-roles : (c : tie.After-user-count) → c .before .role-count .result ≤ 8
+few-roles c = rw (c .before .role-count .ensures) (roles-range _ (accepted-frame _ (at-users c .pre .0)) .1)
 
 roles-are : (c : tie.After-chosen) →
-    c .before .before .before .role-count .result ≡ roleCount (at-part (c .before .before) .args .base .now)
+    c .before .before .before .role-count .result ≡ roleCount (at-users (c .before .before) .args .base .now)
 roles-are c = c .before .before .before .role-count .ensures
 
 d-is : (c : tie.After-wide) → c .wide .result ≡ roleCount (at-wide c .args .base .now)
@@ -110,16 +109,17 @@ d-is c = c .wide .ensures .0 ∙ roles-are (at-chosen (at-counts (at-role-counts
 role-count-requires : tie.Need-role-count-requires
 role-count-requires c κs = framed _ (accepted-frame _ (entered c .pre .0)) .long
 
-part-requires : tie.Need-part-requires
-part-requires c κs = (accepted-frame _ (at-roles c .pre .0), search needs)
+user-count-requires : tie.Need-user-count-requires
+user-count-requires c κs = accepted-frame _ (at-roles c .pre .0)
 
 next-ends-requires : tie.Need-next-ends-requires
 next-ends-requires c κs =
-    let p = at-part c .pre in
-    (p .3 .size, few-users (p .3) (p .0) (c .part .ensures), idle-past (p .3) (p .0) (c .part .ensures))
+    let p = at-users c .pre in
+    let n = c .user-count .ensures in
+    (p .3 .size, few-users (p .3) (p .0) n, idle-past (p .3) (p .0) n)
 
 chosen-requires : tie.Need-chosen-requires
-chosen-requires c κs = let p = at-part (c .before) .pre in (p .0, p .2)
+chosen-requires c κs = let p = at-users (c .before) .pre in (p .0, p .2)
 
 table-requires : tie.Need-table-requires
 table-requires c κs = search needs
@@ -195,7 +195,7 @@ fill-in-spec =
     tie.close
     (tie.spec
     role-count-requires
-    part-requires
+    user-count-requires
     next-ends-requires
     chosen-requires
     table-requires

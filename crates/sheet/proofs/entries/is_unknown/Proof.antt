@@ -7,8 +7,7 @@ use lib.Dec.{leb}
 use borrow.Author.Tests.{lt-ltb, le-ltb}
 use borrow.Author.Needs.{needs}
 use Rattle.folds.proofs.Bools.{not-ltb}
-use Rattle.reader.specs.Tables.{roleCount}
-use Rattle.reader.specs.Rules.{refusalOf}
+use Rattle.reader.specs.Tables.{roleCount, frameRefusal}
 use Rattle.reader.proofs.Frame.{framed}
 use Rattle.reader.proofs.Accepted.{accepted-frame}
 use Rattle.decision.specs.Groups.{unknown}
@@ -29,8 +28,8 @@ module _ (s : tie.Start) where
   abbrev role : ℕ
   role = s .args .role
 
-  ok : refusalOf base ≡ 0
-  ok = s .pre
+  frame : frameRefusal base ≡ 0
+  frame = accepted-frame base (s .pre)
 
 -- the number of users is known
 abbrev at-users : tie.After-user-count → tie.Start
@@ -40,7 +39,7 @@ abbrev past-user : tie.Else1 → tie.Start
 past-user c = at-users (c .before)
 
 user-count-requires : tie.Need-user-count-requires
-user-count-requires c κs = ok (c .before)
+user-count-requires c κs = frame (c .before)
 
 returns : tie.Need-returns
 returns c =
@@ -48,7 +47,7 @@ returns c =
     no-user _ _ (roleCount (base s)) _ (role s) (c .before .user-count .ensures) (c .if1 .taken)
 
 role-count-requires : tie.Need-role-count-requires
-role-count-requires c κs = framed _ (accepted-frame _ (ok (past-user c))) .long
+role-count-requires c κs = framed _ (frame (past-user c)) .long
 
 cast-result : tie.Need-cast-result
 cast-result c = search needs

@@ -1,17 +1,16 @@
 -- `sign_refusal` meets its contract: a chain of refusals. A `Run` is what a run knows at a place: where it started,
 -- that the base is accepted, and what is left of the chain.
-use Prim.Native.Nat.{ℕ, _<_, _≤_}
-use mathlib.Core.Bool.{Bool, true, false, not, cond}
+use Prim.Native.Nat.{ℕ}
+use mathlib.Core.Bool.{not, cond}
 use mathlib.Core.List.{List}
 use mathlib.Core.Path.{_≡_, sym, _∙_}
 use lib.Dec.{ltb}
-use borrow.Author.Tests.{lt-ltb, le-ltb}
-use Rattle.folds.proofs.Bools.{met, passed, refused, unrefused}
-use Rattle.reader.specs.Tables.{roleCount}
+use borrow.Author.Tests.{le-leb, lt-leb}
+use Rattle.folds.proofs.Bools.{met, passed, refused, unrefused, not-ltb}
+use Rattle.reader.specs.Tables.{roleCount, userCount}
 use Rattle.reader.specs.Rules.{refusalOf}
 use Rattle.weights.specs.Acting.{mayAct}
 use Rattle.decision.specs.Groups.{entryCount, unknown}
-use Rattle.decision.specs.Decision.{userCount}
 use Rattle.sheet.specs.Sheets.{standsIn, signRefusal}
 use borrow.Author.Needs.{needs}
 use Rattle.sheet.proofs.entries.sign_refusal.Statement.{statement}
@@ -34,11 +33,11 @@ module _ (s : tie.Start) where
   abbrev answer : ℕ
   answer = signRefusal base held user role
 
-  abbrev full : Bool
-  full = not (ltb (entryCount held) 6)
+  abbrev count : ℕ
+  count = entryCount held
 
   abbrev left15 : ℕ
-  left15 = cond full 20 0
+  left15 = cond (not (ltb count 6)) 20 0
 
   abbrev left14 : ℕ
   left14 = cond (not (mayAct base user role)) 15 left15
@@ -95,13 +94,6 @@ at15 c = past14 (c .before)
 abbrev past15 : tie.Else4 → Run left15
 past15 c = pass (at15 (c .before)) (passed 15 (sym (c .before .is-ineligible .ensures) ∙ c .if4 .left))
 
--- 20
-is-full : {n : ℕ} → 6 ≤ n → not (ltb n 6) ≡ true
-is-full h = rw (le-ltb _ _ h)
-
-has-room : {n : ℕ} → n < 6 → not (ltb n 6) ≡ false
-has-room h = rw (lt-ltb _ _ h)
-
 check-requires : tie.Need-check-requires
 check-requires c κs = search needs
 
@@ -130,10 +122,14 @@ returns-4 : tie.Need-returns-4
 returns-4 c = met _ (sym (c .before .is-ineligible .ensures) ∙ c .if4 .taken) ∙ sym (at15 (c .before) .rest)
 
 returns-5 : tie.Need-returns-5
-returns-5 c = met _ (is-full (c .if5 .taken)) ∙ sym (past15 (c .before) .rest)
+returns-5 c =
+    let r = past15 (c .before) in
+    met 0 (not-ltb (count (r .start)) 6 ∙ le-leb _ _ (c .if5 .taken)) ∙ sym (r .rest)
 
 returns-6 : tie.Need-returns-6
-returns-6 c = sym (past15 (c .before) .rest ∙ passed 20 (has-room (c .if5 .left)))
+returns-6 c =
+    let r = past15 (c .before) in
+    sym (r .rest ∙ passed 20 (not-ltb (count (r .start)) 6 ∙ lt-leb _ _ (c .if5 .left)))
 
 pub sign-refusal-spec : {M : Type 1} → statement M
 sign-refusal-spec =
