@@ -9,13 +9,14 @@ use lib.Dec.{ltb}
 use Rattle.folds.proofs.Bools.{met-or-not}
 use Rattle.folds.proofs.Tests.{all-same, any-same}
 use Rattle.folds.proofs.Numbers.{sum-same}
-use Rattle.reader.specs.Tables.{users, clauses, tableOf, recordCount}
+use Rattle.reader.specs.Tables.{users, clauses, roleCount, tableOf, recordCount}
 use Rattle.reader.specs.Fields.{parameter, clausePermission, clauseLength}
 use Rattle.reader.specs.Fields.{conditionAttribute, conditionOperator, conditionValue}
-use Rattle.reader.specs.Codes.{heldBy}
+use Rattle.reader.specs.Codes.{heldBy, holds}
 use Rattle.weights.specs.declared.Context.{Context}
 use Rattle.weights.specs.Weights.{weight}
-use Rattle.weights.proofs.Agree.{SameWeighing, same-weight}
+use Rattle.weights.specs.Acting.{actsThrough, mayAct}
+use Rattle.weights.proofs.Agree.{SameWeighing, same-senior, same-weight}
 use Rattle.decision.specs.Conditions.{conditionHolds, clauseHolds, clauseOfHolds, permissionHolds}
 use Rattle.decision.specs.Groups.{entryCount, sumOf, someIneligible, someWeightless}
 use Rattle.decision.specs.Groups.{membersRefusal, groupRefusal}
@@ -71,6 +72,18 @@ same-holds R us vs e u r =
     rw (← e .count)
     (⊎-elim (λ t. rw (t, e .parameters u (ltb-true _ _ t))) (λ t. rw t) (met-or-not (ltb u (recordCount users us))))
 
+-- and may act in the same roles
+pub same-acting : (b d : List ℕ) → SameDeciding b d → (u r : ℕ) → mayAct b u r ≡ mayAct d u r
+unfolding mayAct
+same-acting b d e u r =
+    let through =
+    any-same (actsThrough b u r) (actsThrough d u r) (roleCount b)
+    (λ s l. rw (held s, same-senior _ _ (e .weighing .hierarchy) s r)) in
+    rw (held r, through, e .users .count, e .weighing .roles)
+  where
+    held : (s : ℕ) → holds b u s ≡ holds d u s
+    held s = rw (e .weighing .roles) (same-holds _ _ _ (e .users) u s)
+
 module _ (U W R S : ℕ) (may can : ℕ → ℕ → Bool) (weigh other : ℕ → ℕ) (condition rule : ℕ → ℕ → ℕ → Bool)
     (c : U ≡ W) (q : R ≡ S) (m : (u r : ℕ) → may u r ≡ can u r) (w : (r : ℕ) → weigh r ≡ other r)
     (h : (number sum set : ℕ) → condition number sum set ≡ rule number sum set) (g : List ℕ) where
@@ -101,5 +114,4 @@ unfolding groupDecision
 same-group-decision b d e at p g =
     same-refusal _ _ _ _ (eligible b at p) (eligible d at p) (λ r. weight b at r p) (λ r. weight d at r p) _ _
     (e .users .count) (e .weighing .roles)
-    (λ u r. rw (e .weighing .roles) (same-holds _ _ _ (e .users) u r)) (λ r. same-weight b d (e .weighing) at r p)
-    (same-condition _ _ (e .clauses) p) g
+    (same-acting b d e) (λ r. same-weight b d (e .weighing) at r p) (same-condition _ _ (e .clauses) p) g

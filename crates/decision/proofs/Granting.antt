@@ -15,13 +15,12 @@ use Rattle.folds.proofs.Tests.{any-at, any-each, any-same}
 use Rattle.folds.proofs.Numbers.{sum-same, sum-le, count-same}
 use Rattle.folds.specs.Sets.{inSet}
 use Rattle.folds.proofs.Sets.{in-set}
-use Rattle.reader.specs.Tables.{users, clauses, roleCount, permissionCount, tableOf, userCount}
+use Rattle.reader.specs.Tables.{clauses, roleCount, permissionCount, tableOf, userCount}
 use Rattle.reader.specs.Rules.{refusalOf}
 use Rattle.weights.specs.declared.Context.{Context}
 use Rattle.weights.specs.Contexts.{outOfRange}
 use Rattle.weights.specs.Weights.{weight}
 use Rattle.weights.specs.Setting.{AreWeights}
-use Rattle.weights.specs.Acting.{mayAct, mayActBy}
 use Rattle.decision.specs.Groups.{entryCount, entryUser, entryRole, sumOf, actedIn, rolesOf}
 use Rattle.decision.specs.Groups.{lengthRefused, unknownAt, someUnknown, standsBefore, someTwice, someIneligible}
 use Rattle.decision.specs.Groups.{someWeightless, membersRefusal, groupRefusal}
@@ -61,15 +60,10 @@ module _ (b : List ℕ) (at : Context) (p : ℕ) (w g : List ℕ) (are : AreWeig
   unfolding sumOf
   sum-weights = sum-same _ _ (entryCount g) (λ i l. are .role (entryRole g i) (low i l))
 
--- what the tables and R handed on say is what the base says
-module _ (b : List ℕ) (g : List ℕ) where
-  pub unknown-same : (U R : ℕ) → U ≡ userCount b → R ≡ roleCount b →
-      someUnknown U R g ≡ someUnknown (userCount b) (roleCount b) g
-  unknown-same U R e f = rw (e, f)
-
-  pub ineligible-same : (us : List ℕ) (R : ℕ) → us ≡ tableOf b users → R ≡ roleCount b →
-      someIneligible (mayActBy R us) g ≡ someIneligible (mayAct b) g
-  ineligible-same us R e f = rw (e, f)
+-- what the numbers of users and roles handed on say is what the base says
+pub unknown-same : (b g : List ℕ) (U R : ℕ) → U ≡ userCount b → R ≡ roleCount b →
+    someUnknown U R g ≡ someUnknown (userCount b) (roleCount b) g
+unknown-same b g U R e f = rw (e, f)
 
 module _ (b : List ℕ) (at : Context) (p : ℕ) (g : List ℕ) where
   pub condition-same : (k : List ℕ) (n sum set : ℕ) → k ≡ tableOf b clauses → n ≡ entryCount g →

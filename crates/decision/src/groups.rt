@@ -2,7 +2,10 @@
 ghost use mathlib.Core.Path.{_≡_};
 ghost use Prim.Native.Nat.{ℕ, _*_, _≤_, _<_};
 ghost use lib.ListN.{length, getD};
-ghost use Rattle.weights.specs.Acting.{mayActBy};
+ghost use Rattle.reader.specs.Tables.{hierarchy, tableOf};
+ghost use Rattle.reader.specs.Rules.{refusalOf};
+ghost use Rattle.weights.specs.Acting.{mayAct};
+ghost use Rattle.weights.specs.Setting.{Juniors};
 ghost use Rattle.decision.specs.Groups.{entryCount, entryRole, sumOf, rolesOf, lengthRefused, someUnknown};
 ghost use Rattle.decision.specs.Groups.{standsBefore, someTwice, someIneligible, someWeightless};
 
@@ -59,14 +62,14 @@ pub fn some_twice(g: &[u8]) -> bool
     false
 }
 
-// Inner: refusal 15.
-pub fn some_ineligible(g: &[u8], users: &[u8], roles: u8) -> bool
-    requires { ⌜ roles ≤ 8 ⌝ }
-    ensures { λ r. ⌜ r ≡ someIneligible (mayActBy roles (now (users .entry))) (now (g .entry)) ⌝ }
+// Inner: refusal 15, by an accepted base with these juniors.
+pub fn some_ineligible(g: &[u8], base: &[u8], juniors: [u8; 8]) -> bool
+    requires { ⌜ (refusalOf (now base) ≡ 0) × Juniors (tableOf (now base) hierarchy) juniors ⌝ }
+    ensures { λ r. ⌜ r ≡ someIneligible (mayAct (now (base .entry))) (now (g .entry)) ⌝ }
 {
     for i in 0..g.len() / 2 {
         let at = 2 * i;
-        if !weights::acting::may_act(users, roles, g[at] as usize, g[at + 1] as usize) {
+        if !weights::acting::may_act(base, juniors, g[at] as usize, g[at + 1] as usize) {
             return true;
         }
     }

@@ -3,9 +3,9 @@ use weights::Context;
 use weights::Fixed;
 ghost use mathlib.Core.Path.{_≡_};
 ghost use Prim.Native.Nat.{_<_};
-ghost use Rattle.reader.specs.Tables.{permissionCount};
+ghost use Rattle.reader.specs.Tables.{hierarchy, permissionCount, tableOf};
 ghost use Rattle.reader.specs.Rules.{refusalOf};
-ghost use Rattle.weights.specs.Setting.{FixedBy};
+ghost use Rattle.weights.specs.Setting.{Juniors, FixedBy};
 ghost use Rattle.decision.specs.Decision.{membersOf, groupDecision, decisionOf};
 
 pub mod conditions;
@@ -29,9 +29,9 @@ pub fn decide(base: &[u8], permission: u32, at: Context, group: &[u8]) -> u8
     decide_checked(base, permission as u8, s, group)
 }
 
-// Inner: refusals 12 to 15 for an accepted base, or 0.
-pub fn members_refusal(base: &[u8], group: &[u8]) -> u8
-    requires { ⌜ refusalOf (now base) ≡ 0 ⌝ }
+// Inner: refusals 12 to 15 for an accepted base with these juniors, or 0.
+pub fn members_refusal(base: &[u8], juniors: [u8; 8], group: &[u8]) -> u8
+    requires { ⌜ (refusalOf (now base) ≡ 0) × Juniors (tableOf (now base) hierarchy) juniors ⌝ }
     ensures { λ r. ⌜ r ≡ membersOf (now (base .entry)) (now (group .entry)) ⌝ }
 {
     if groups::length_refused(group) {
@@ -44,8 +44,7 @@ pub fn members_refusal(base: &[u8], group: &[u8]) -> u8
     if groups::some_twice(group) {
         return 14;
     }
-    let users = reader::trailer::part(base, reader::USERS);
-    if groups::some_ineligible(group, users, roles) {
+    if groups::some_ineligible(group, base, juniors) {
         return 15;
     }
     0
@@ -56,12 +55,12 @@ pub fn decide_checked(base: &[u8], permission: u8, s: Fixed, group: &[u8]) -> u8
     requires { ⌜ (refusalOf (now base) ≡ 0) × (permission < permissionCount (now base)) × FixedBy (now base) s ⌝ }
     ensures { λ r. ⌜ r ≡ groupDecision (now (base .entry)) (s .at) permission (now (group .entry)) ⌝ }
 {
-    let members = members_refusal(base, group);
+    let juniors = s.juniors;
+    let members = members_refusal(base, juniors, group);
     if members != 0 {
         return members;
     }
     let chosen = weights::chosen(base, s);
-    let juniors = s.juniors;
     let w = weights::role_weights(&chosen.own, &chosen.inh, juniors, permission);
     if groups::some_weightless(group, w) {
         return 16;

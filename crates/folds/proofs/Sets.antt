@@ -8,7 +8,7 @@ use native.Mathlib.Nat.{le-refl, lt-of-lt-of-le, lt-of-le-of-lt, lt-of-not-le, n
 use native.Mathlib.Omega.{arith}
 use lib.Dec.{ltb, eqb, eqb·suc-suc, eqb·zero-suc, eqb·suc-zero, lit<}
 use lib.Pow.{pow-pos, pow-mono, shl-exact, mod-pow-add}
-use lib.Bits.{bitOr, bitAnd, or-shr, or-mod, or-shifted-r, or-add-and, and-shr, and-mod, and-le-r, and-lt}
+use lib.Bits.{bitOr, bitAnd, or-shr, or-mod, or-shifted-r, and-shr, and-mod, and-le-r, and-lt}
 use lib.Count.{ones, onesIn, ones-cat}
 use borrow.Author.Tests.{eqb-true, eqb-false, eq-eqb, ne-eqb, ltb-true, ltb-false}
 use mathlib.Core.Logic.{⊎-elim}
@@ -192,14 +192,16 @@ lt-power : (n : ℕ) → n < 2 ^ n
 lt-power zero = lit< tt
 lt-power (suc n) = omega (arith, lt-power n)
 
+-- sets of whatever size with the same members are one
+pub same-members : (a b : ℕ) → ((r : ℕ) → inSet a r ≡ inSet b r) → a ≡ b
+same-members a b e =
+    let h = lt-power (a + b) in
+    same-set (a + b) a b (omega arith) (omega arith) (λ r l. e r)
+
 -- a union of three sets, taken either way
 pub or-assoc : (a b c : ℕ) → bitOr (bitOr a b) c ≡ bitOr a (bitOr b c)
 or-assoc a b c =
-    let h = lt-power (a + b + c) in
-    same-set (a + b + c) (bitOr (bitOr a b) c) (bitOr a (bitOr b c))
-    (omega (arith, or-add-and (bitOr a b) c, or-add-and a b))
-    (omega (arith, or-add-and a (bitOr b c), or-add-and b c))
-    (λ r l. simp (in-or, mathlib.Core.Bool.or-assoc))
+    same-members (bitOr (bitOr a b) c) (bitOr a (bitOr b c)) (λ r. simp (in-or, mathlib.Core.Bool.or-assoc))
 
 -- a set with one number more
 pub in-added : (s k r : ℕ) → inSet (bitOr s (2 ^ k)) r ≡ (inSet s r || eqb k r)

@@ -13,7 +13,7 @@ use lib.ListN.{length, getD, replicate, List·getD-eq-default}
 use Rattle.folds.specs.Sets.{inSet}
 use Rattle.folds.proofs.Bools.{met-or-not}
 use Rattle.folds.proofs.Sets.{in-set, in-none}
-use Rattle.reader.specs.Tables.{users, clauses, roleCount, permissionCount, tableOf, userCount}
+use Rattle.reader.specs.Tables.{clauses, roleCount, permissionCount, tableOf, userCount}
 use Rattle.reader.specs.Rules.{refusalOf}
 use Rattle.reader.proofs.Frame.{roles-range, users-le}
 use Rattle.reader.proofs.Accepted.{accepted-frame}
@@ -22,7 +22,7 @@ use Rattle.weights.specs.Contexts.{outOfRange}
 use Rattle.weights.specs.Weights.{weight}
 use Rattle.weights.specs.Acting.{mayAct}
 use Rattle.weights.specs.Setting.{AreWeights}
-use Rattle.weights.proofs.Known.{acting-known}
+use Rattle.weights.proofs.MayAct.{acting-known}
 use Rattle.weights.proofs.Weigh.{weights-le, weight-high}
 use Rattle.decision.specs.Decision.{eligible, decisionOf}
 use Rattle.decision.specs.Conditions.{permissionHolds}
@@ -57,7 +57,7 @@ module _ (b : List ℕ) (at : Context) (p : ℕ) (ok : refusalOf b ≡ 0) where
       there l =
           ap (λ (s : ℕ). inSet s r) (are .user u l) ∙ in-set (mayAct b u) 8 r low
           ∙ with-both (ltb u (userCount b)) (ltb r (roleCount b)) (mayAct b u r)
-          (λ h. let k = acting-known (roleCount b) (tableOf b users) u r h in (lt-ltb _ _ (k .0), lt-ltb _ _ (k .1)))
+          (λ h. let k = acting-known b u r h in (lt-ltb _ _ (k .0), lt-ltb _ _ (k .1)))
 
       past : 24 ≤ u → inSet (getD sets u 0) r ≡ (ltb u (userCount b) && (ltb r (roleCount b) && mayAct b u r))
       past l =

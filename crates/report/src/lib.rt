@@ -34,7 +34,8 @@ pub fn report(base: &[u8], at: Context, out: &mut [u8]) -> Answer
         };
     }
     let s = weights::setting(base, at);
-    let sets = parts::acting_sets(base);
+    let juniors = s.juniors;
+    let sets = parts::acting_sets(base, juniors);
     let count = parts::fill(base, s, sets, out);
     Answer { refusal: 0, count }
 }

@@ -11,10 +11,10 @@ ghost use mathlib.Core.List.{List, _∷_};
 ghost use Prim.Native.Nat.{ℕ, _*_, _^_, _≤_, _<_};
 ghost use lib.ListN.{length};
 ghost use lib.Dec.{ltb};
-ghost use Rattle.reader.specs.Tables.{permissionCount, roleCount};
+ghost use Rattle.reader.specs.Tables.{hierarchy, permissionCount, roleCount, tableOf};
 ghost use Rattle.reader.specs.Rules.{refusalOf};
 ghost use Rattle.weights.specs.Contexts.{outOfRange};
-ghost use Rattle.weights.specs.Setting.{FixedBy, ChosenBy};
+ghost use Rattle.weights.specs.Setting.{Juniors, FixedBy, ChosenBy};
 ghost use Rattle.multisets.specs.Ranks.{first, Starts};
 ghost use Rattle.multisets.specs.Ends.{NextEnds};
 ghost use Rattle.multisets.specs.Levels.{Levels, Blank};
@@ -22,16 +22,14 @@ ghost use Rattle.masks.specs.Sets.{RoleCounts};
 ghost use Rattle.report.specs.Report.{releasable};
 ghost use Rattle.report.specs.Parts.{ActingSets, PartFor, Filled};
 
-// Inner: for each user of an accepted base the set of the roles that the user may act in.
-pub fn acting_sets(base: &[u8]) -> [u8; 24]
-    requires { ⌜ refusalOf (now base) ≡ 0 ⌝ }
+// Inner: for each user of an accepted base with these juniors the set of the roles that the user may act in.
+pub fn acting_sets(base: &[u8], juniors: [u8; 8]) -> [u8; 24]
+    requires { ⌜ (refusalOf (now base) ≡ 0) × Juniors (tableOf (now base) hierarchy) juniors ⌝ }
     ensures { λ sets. ⌜ ActingSets (now (base .entry)) sets ⌝ }
 {
-    let users = reader::trailer::part(base, reader::USERS);
-    let roles = reader::trailer::role_count(base);
     let mut sets = [0u8; 24];
     for u in 0..24usize {
-        sets[u] = weights::acting::acting_roles(users, roles, u);
+        sets[u] = weights::acting::acting_roles(base, juniors, u);
     }
     sets
 }

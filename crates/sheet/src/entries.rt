@@ -49,9 +49,8 @@ fn is_ineligible(base: &[u8], user: u32, role: u32) -> bool
     requires { ⌜ refusalOf (now base) ≡ 0 ⌝ }
     ensures { λ r. ⌜ r ≡ not (mayAct (now (base .entry)) user role) ⌝ }
 {
-    let users = reader::trailer::part(base, reader::USERS);
-    let roles = reader::trailer::role_count(base);
-    !weights::acting::may_act(users, roles, user as usize, role as usize)
+    let juniors = weights::juniors_of_base(base);
+    !weights::acting::may_act(base, juniors, user as usize, role as usize)
 }
 
 // Inner: the first of refusals 1 to 9, 13 to 15 and 20 of a signing that applies, or 0.

@@ -15,6 +15,7 @@ use Rattle.reader.specs.Rules.{exclusionsBad, recordsRefusal, refusalOf}
 use Rattle.reader.proofs.Accepted.{accepted}
 use Rattle.weights.specs.Contexts.{outOfRange, contextHolds}
 use Rattle.weights.specs.Weights.{weight}
+use Rattle.weights.specs.Acting.{mayAct}
 use Rattle.decision.specs.Conditions.{permissionHolds}
 use Rattle.decision.specs.Groups.{sumOf, lengthRefused, someUnknown, standsBefore, someTwice, someIneligible}
 use Rattle.decision.specs.Groups.{someWeightless, membersRefusal}
@@ -38,8 +39,8 @@ unfolding shop withParameter edges
     contextsBad contextBad contextSlotBad contextConditionBad policiesBad policyBad exclusionsBad
     recordsRefusal refusalOf
     contextHolds weight
-    outOfRange lengthRefused someUnknown someTwice standsBefore someIneligible heldBy membersRefusal someWeightless
-    sumOf permissionHolds groupDecision decisionOf
+    outOfRange lengthRefused someUnknown someTwice standsBefore someIneligible heldBy mayAct membersRefusal
+    someWeightless sumOf permissionHolds groupDecision decisionOf
     fits bothFit someValueFits meetable compatible
 marked =
     record {

@@ -1,7 +1,7 @@
 pub mod Agree
 pub mod Chains
 pub mod Choice
-pub mod Known
+pub mod MayAct
 pub mod Steps
 pub mod Weigh
 pub mod Ranges

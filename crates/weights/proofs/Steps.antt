@@ -36,6 +36,10 @@ pub holding-same : (at : Context) (c : List ℕ) (s n i : ℕ) → inSet s n ≡
     contextClauseHolds at c i ≡ false → inSet s n ≡ anyBelow (i + 1) (clauseOfHolds at c n)
 holding-same at c s n i inv e = rw (any-next, e, and-false, or-false) inv
 
+-- role k and a set of roles
+pub in-with : (k y j : ℕ) → inSet (bitOr (2 ^ k) y) j ≡ (eqb k j || inSet y j)
+in-with k y j = in-or (2 ^ k) y j ∙ ap (λ (b : Bool). b || inSet y j) (in-one k j ∙ eqb-sym j k)
+
 -- a record of role s adds its junior and that one's juniors
 pub junior-more : (h known : List ℕ) (x s j i : ℕ) → inSet x j ≡ anyBelow i (nextJunior h known s j) → senior h i ≡ s →
     inSet (bitOr x (bitOr (2 ^ junior h i) (getD known (junior h i) 0))) j ≡ anyBelow (i + 1) (nextJunior h known s j)
@@ -43,9 +47,7 @@ junior-more h known x s j i inv e =
     let k = junior h i in
     let y = getD known k 0 in
     rw (any-next, eq-eqb (senior h i) s e, ← inv)
-    (in-or x (bitOr (2 ^ k) y) j
-    ∙ ap (λ (b : Bool). inSet x j || b)
-    (in-or (2 ^ k) y j ∙ ap (λ (b : Bool). b || inSet y j) (in-one k j ∙ eqb-sym j k)))
+    (in-or x (bitOr (2 ^ k) y) j ∙ ap (λ (b : Bool). inSet x j || b) (in-with k y j))
 
 -- another record adds none
 pub junior-same : (h known : List ℕ) (x s j i : ℕ) → inSet x j ≡ anyBelow i (nextJunior h known s j) →

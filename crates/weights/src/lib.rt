@@ -37,13 +37,21 @@ pub struct ChosenWeights {
     pub inh: [u8; 128],
 }
 
+// Inner: the juniors of each role of an accepted base.
+pub fn juniors_of_base(base: &[u8]) -> [u8; 8]
+    requires { ⌜ refusalOf (now base) ≡ 0 ⌝ }
+    ensures { λ r. ⌜ Juniors (tableOf (now (base .entry)) hierarchy) r ⌝ }
+{
+    seniority::juniors(reader::trailer::part(base, reader::HIERARCHY))
+}
+
 // Inner: the setting of an accepted base.
 pub fn setting(base: &[u8], at: Context) -> Fixed
     requires { ⌜ refusalOf (now base) ≡ 0 ⌝ }
     ensures { λ s. ⌜ (s .at ≡ at) × FixedBy (now (base .entry)) s ⌝ }
 {
     let contexts = contexts::holding(reader::trailer::part(base, reader::CONTEXTS), at);
-    let juniors = seniority::juniors(reader::trailer::part(base, reader::HIERARCHY));
+    let juniors = juniors_of_base(base);
     Fixed {
         at,
         contexts,

@@ -10,8 +10,8 @@ ghost use Rattle.folds.specs.Sets.{inSet};
 ghost use Rattle.reader.specs.Rules.{hierarchyBad};
 ghost use Rattle.weights.specs.Setting.{Juniors, nextJunior};
 
-// Role j and its known juniors.
-fn with_juniors(j: u8, known: [u8; 8]) -> u8
+// Inner: role j and its known juniors.
+pub fn with_juniors(j: u8, known: [u8; 8]) -> u8
     requires { ⌜ j < 8 ⌝ }
     ensures { λ r. ⌜ r ≡ bitOr (2 ^ j) (getD known j 0) ⌝ }
 {

@@ -120,8 +120,11 @@ abbrev pass : {F : tie.Start → Type 0} {l k : tie.Start → ℕ} (r : Run F l)
 pass r e = record { start = r .start; facts = r .facts; rest = r .rest ∙ e }
 
 -- 12 to 15
+abbrev at-juniors : tie.After-juniors → tie.Start
+at-juniors c = c .before .before .before
+
 abbrev start15 : tie.After-members-refusal → tie.Start
-start15 c = c .before .before .before
+start15 c = at-juniors (c .before)
 
 test15 : (c : tie.After-members-refusal) → c .members-refusal .result ≡ members (start15 c)
 test15 c = c .members-refusal .ensures
@@ -141,7 +144,7 @@ at-chosen c =
 abbrev at-lent : tie.After-role-weights-arg2 → Run Chosen left15
 at-lent c =
     let lent = c .before .before in
-    at-chosen (lent .before .before)
+    at-chosen (lent .before)
 
 abbrev at-weighed : tie.After-role-weights → Run Weighed left15
 at-weighed c =
@@ -198,7 +201,7 @@ test17 c =
     sym (c .permission-holds .ensures ∙ same (c .before .roles-of .ensures))
 
 members-refusal-requires : tie.Need-members-refusal-requires
-members-refusal-requires c κs = ok (c .before .before)
+members-refusal-requires c κs = (ok (at-juniors c), fixed (at-juniors c) .juniors)
 
 returns : tie.Need-returns
 unfolding groupDecision groupRefusal

@@ -1,17 +1,19 @@
 -- `members_refusal` meets its contract: a chain of four refusals. A `Run` is what a run knows at a place of the code:
--- where it started, the number of roles, and what is left of the chain.
-use Prim.Native.Nat.{ℕ, _≤_}
+-- where it started, and what is left of the chain.
+use Prim.Native.Nat.{ℕ}
 use mathlib.Core.Bool.{Bool, false, cond}
 use mathlib.Core.List.{List}
 use mathlib.Core.Path.{_≡_, sym, _∙_}
 use Rattle.folds.proofs.Bools.{met, passed}
-use Rattle.reader.specs.Tables.{roleCount, frameRefusal, userCount}
-use Rattle.reader.proofs.Frame.{framed, roles-range}
+use Rattle.reader.specs.Tables.{hierarchy, roleCount, userCount, tableOf, frameRefusal}
+use Rattle.reader.specs.Rules.{refusalOf}
+use Rattle.reader.proofs.Frame.{framed}
 use Rattle.reader.proofs.Accepted.{accepted}
 use Rattle.weights.specs.Acting.{mayAct}
+use Rattle.weights.specs.Setting.{Juniors}
 use Rattle.decision.specs.Groups.{lengthRefused, someUnknown, someTwice, someIneligible, membersRefusal}
 use Rattle.decision.specs.Decision.{membersOf}
-use Rattle.decision.proofs.Granting.{unknown-same, ineligible-same}
+use Rattle.decision.proofs.Granting.{unknown-same}
 use borrow.Author.Needs.{needs}
 use Rattle.decision.proofs.members_refusal.Statement.{statement}
 use Rattle.decision.proofs.members_refusal.Tie as tie
@@ -24,8 +26,14 @@ module _ (s : tie.Start) where
   abbrev group : List ℕ
   group = s .args .group .now
 
+  ok : refusalOf base ≡ 0
+  ok = s .pre .0
+
+  are : Juniors (tableOf base hierarchy) (s .args .juniors)
+  are = s .pre .1
+
   frame : frameRefusal base ≡ 0
-  frame = accepted _ (s .pre) .frame
+  frame = accepted _ ok .frame
 
   abbrev unknown : Bool
   unknown = someUnknown (userCount base) (roleCount base) group
@@ -46,21 +54,12 @@ module _ (s : tie.Start) where
   unfolding membersRefusal
   rest12 h = passed 12 h
 
-  -- the number of roles read
-  record Read : Type 0 where
-    roles : ℕ
-    roles-are : roles ≡ roleCount base
-
-  roles-few : (k : Read) → k .roles ≤ 8
-  roles-few k = rw (k .roles-are) (roles-range _ frame .1)
-
 record Run (left : tie.Start → ℕ) : Type 0 where
   start : tie.Start
-  read : Read start
   rest : membersOf (base start) (group start) ≡ left start
 
 abbrev pass : {l k : tie.Start → ℕ} (r : Run l) → l (r .start) ≡ k (r .start) → Run k
-pass r e = record { start = r .start; read = r .read; rest = r .rest ∙ e }
+pass r e = record { start = r .start; rest = r .rest ∙ e }
 
 -- 12
 abbrev start12 : tie.After-length-refused → tie.Start
@@ -77,20 +76,16 @@ abbrev at-roles : tie.After-role-count → Run left12
 at-roles c =
     let e = c .before in
     let s = past12 e in
-    record {
-      start = s;
-      read = record { roles = c .role-count .result; roles-are = c .role-count .ensures };
-      rest = rest12 s (test12 (e .before) ∙ e .if1 .left);
-    }
+    record { start = s; rest = rest12 s (test12 (e .before) ∙ e .if1 .left) }
 
 abbrev at13 : tie.After-some-unknown → Run left12
 at13 c = at-roles (c .before .before)
 
 test13 : (c : tie.After-some-unknown) → unknown (at13 c .start) ≡ c .some-unknown .result
 test13 c =
-    let r = at13 c in
-    let same = unknown-same (base (r .start)) _ _ _ (c .before .user-count .ensures) (r .read .roles-are) in
-    sym (c .some-unknown .ensures ∙ same)
+    let counted = c .before in
+    let roles = counted .before .role-count .ensures in
+    sym (c .some-unknown .ensures ∙ unknown-same _ _ _ _ (counted .user-count .ensures) roles)
 
 abbrev past13 : tie.Else2 → Run left13
 past13 c = pass (at13 (c .before)) (passed 13 (test13 (c .before) ∙ c .if2 .left))
@@ -106,17 +101,11 @@ abbrev past14 : tie.Else3 → Run left14
 past14 c = pass (at14 (c .before)) (passed 14 (test14 (c .before) ∙ c .if3 .left))
 
 -- 15
-abbrev at-users : tie.After-part → Run left14
-at-users c = past14 (c .before)
-
 abbrev at15 : tie.After-some-ineligible → Run left14
-at15 c = at-users (c .before)
+at15 c = past14 (c .before)
 
 test15 : (c : tie.After-some-ineligible) → ineligible (at15 c .start) ≡ c .some-ineligible .result
-test15 c =
-    let r = at15 c in
-    let same = ineligible-same (base (r .start)) _ _ _ (c .before .part .ensures) (r .read .roles-are) in
-    sym (c .some-ineligible .ensures ∙ same)
+test15 c = sym (c .some-ineligible .ensures)
 
 length-refused-requires : tie.Need-length-refused-requires
 length-refused-requires c κs = search needs
@@ -143,11 +132,8 @@ some-twice-requires c κs = search needs
 returns-3 : tie.Need-returns-3
 returns-3 c = met _ (test14 (c .before) ∙ c .if3 .taken) ∙ sym (at14 (c .before) .rest)
 
-part-requires : tie.Need-part-requires
-part-requires c κs = (frame (past14 c .start), search needs)
-
 some-ineligible-requires : tie.Need-some-ineligible-requires
-some-ineligible-requires c κs = roles-few (at-users c .start) (at-users c .read)
+some-ineligible-requires c κs = (ok (past14 c .start), are (past14 c .start))
 
 returns-4 : tie.Need-returns-4
 returns-4 c = met _ (test15 (c .before) ∙ c .if4 .taken) ∙ sym (at15 (c .before) .rest)
@@ -167,7 +153,6 @@ members-refusal-spec =
     returns-2
     some-twice-requires
     returns-3
-    part-requires
     some-ineligible-requires
     returns-4
     returns-5)

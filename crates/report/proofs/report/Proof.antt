@@ -118,8 +118,11 @@ fitting c = record { ranged = at-wide (c .before); fits = long-enough c }
 abbrev at-sets : tie.After-setting → Fitting
 at-sets c = fitting (c .before)
 
+abbrev at-juniors : tie.After-juniors → tie.After-setting
+at-juniors c = c .before
+
 abbrev at-fill : tie.After-fill-arg → tie.After-setting
-at-fill c = c .before .before
+at-fill c = at-juniors (c .before .before)
 
 check-requires : tie.Need-check-requires
 check-requires c κs = search needs
@@ -158,7 +161,9 @@ setting-requires : tie.Need-setting-requires
 setting-requires c κs = fitting c .ranged .ok
 
 acting-sets-requires : tie.Need-acting-sets-requires
-acting-sets-requires c κs = at-sets c .ranged .ok
+acting-sets-requires c κs =
+    let set = at-juniors c in
+    (at-sets set .ranged .ok, set .setting .ensures .1 .juniors)
 
 fill-requires : tie.Need-fill-requires
 fill-requires c κs =

@@ -7,19 +7,19 @@ use native.Mathlib.Omega.{arith}
 use lib.ListN.{length}
 use borrow.Author.Needs.{needs}
 use Rattle.folds.proofs.Searches.{NoneYet, none-at-first, none-further, one-found, none-found}
-use Rattle.weights.specs.Acting.{mayActBy}
+use Rattle.weights.specs.Acting.{mayAct}
 use Rattle.decision.specs.Groups.{entryUser, entryRole, someIneligible}
 use Rattle.decision.proofs.groups.some_ineligible.Statement.{statement}
 use Rattle.decision.proofs.groups.some_ineligible.Tie as tie
 
-abbrev ineligibleAt : ℕ → List ℕ → List ℕ → ℕ → Bool
-ineligibleAt roles users g i = not (mayActBy roles users (entryUser g i) (entryRole g i))
+abbrev ineligibleAt : List ℕ → List ℕ → ℕ → Bool
+ineligibleAt base g i = not (mayAct base (entryUser g i) (entryRole g i))
 
 abbrev Inv-loop : tie.InvT-loop
-Inv-loop g users roles i₀ i-end i = NoneYet (length g / 2) (ineligibleAt roles users g) i
+Inv-loop g base juniors i₀ i-end i = NoneYet (length g / 2) (ineligibleAt base g) i
 
 abbrev μ-loop : tie.MeasureT-loop
-μ-loop g users roles i₀ i-end i = length g / 2 - i
+μ-loop g base juniors i₀ i-end i = length g / 2 - i
 
 abbrev at-user : tie.After-shared-slice-known3 Inv-loop μ-loop → tie.In-loop Inv-loop μ-loop
 at-user c = c .before

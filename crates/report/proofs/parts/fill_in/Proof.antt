@@ -12,12 +12,12 @@ use lib.Dec.{ltb}
 use Rattle.folds.specs.Sets.{setBelow}
 use Rattle.folds.proofs.Bools.{met-or-not}
 use Rattle.folds.proofs.Numbers.{sum-zero}
-use Rattle.reader.specs.Tables.{users, userCount, roleCount, tableOf}
+use Rattle.reader.specs.Tables.{userCount, roleCount}
 use Rattle.reader.specs.Rules.{refusalOf}
 use Rattle.reader.proofs.Frame.{framed, roles-range, users-le}
 use Rattle.reader.proofs.Accepted.{accepted-frame}
 use Rattle.weights.specs.Acting.{mayAct}
-use Rattle.weights.proofs.Known.{acting-known}
+use Rattle.weights.proofs.MayAct.{acting-known}
 use Rattle.masks.specs.Sets.{RoleCounts}
 use Rattle.multisets.specs.Levels.{Levels, Blank}
 use Rattle.report.specs.Parts.{ActingSets}
@@ -31,7 +31,7 @@ idle b u past = sum-zero (λ r. cond (mayAct b u r) (2 ^ r) 0) 8 (λ r l. rw (no
   where
     none : (r : ℕ) → mayAct b u r ≡ false
     none r = ⊎-elim
-        (λ h. let k = acting-known (roleCount b) (tableOf b users) u r h in absurd (omega (arith, k .0)))
+        (λ h. let k = acting-known b u r h in absurd (omega (arith, k .0)))
         (λ h. h)
         (met-or-not (mayAct b u r))
 
