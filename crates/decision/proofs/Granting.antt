@@ -24,7 +24,7 @@ use Rattle.weights.specs.Setting.{AreWeights}
 use Rattle.decision.specs.Groups.{entryCount, entryUser, entryRole, sumOf, actedIn, rolesOf}
 use Rattle.decision.specs.Groups.{lengthRefused, unknownAt, someUnknown, standsBefore, someTwice, someIneligible}
 use Rattle.decision.specs.Groups.{someWeightless, membersRefusal, groupRefusal}
-use Rattle.decision.specs.Decision.{groupDecision, decisionOf}
+use Rattle.decision.specs.Decision.{groupDecision, headed, decisionOf}
 use Rattle.decision.specs.Conditions.{roleNum, permissionHolds}
 use Rattle.decision.specs.Granting.{Granted, GrantedBy}
 
@@ -197,6 +197,24 @@ module _ (U R : ℕ) (may : ℕ → ℕ → Bool) (weigh : ℕ → ℕ) (conditi
   pub granting : (groupRefusal U R may weigh condition g ≡ 0) ↔ Granted U R may weigh condition g
   granting = (granted-of, refused-not)
 
+-- whom the chain 12 to 17 grants, it grants where more users are eligible
+pub wider-granted : (U R : ℕ) (may can : ℕ → ℕ → Bool) (weigh : ℕ → ℕ) (condition : ℕ → ℕ → ℕ → Bool) (g : List ℕ) →
+    ((u r : ℕ) → may u r ≡ true → can u r ≡ true) →
+    groupRefusal U R may weigh condition g ≡ 0 → groupRefusal U R can weigh condition g ≡ 0
+wider-granted U R may can weigh condition g wider h =
+    let d = granting U R may weigh condition g .0 h in
+    granting U R can weigh condition g .1 (record {
+      whole = d .whole;
+      some = d .some;
+      few = d .few;
+      user = d .user;
+      role = d .role;
+      different = d .different;
+      acting = λ i l. wider (entryUser g i) (entryRole g i) (d .acting i l);
+      heavy = d .heavy;
+      holds = d .holds;
+    })
+
 -- the law of granting: with an accepted base, a permission that is there and a context in range, for every list
 pub decision-granting : (b : List ℕ) (at : Context) (p : ℕ) (g : List ℕ) →
     refusalOf b ≡ 0 → p < permissionCount b → outOfRange at ≡ false →
@@ -204,19 +222,24 @@ pub decision-granting : (b : List ℕ) (at : Context) (p : ℕ) (g : List ℕ) �
 unfolding decisionOf groupDecision
 decision-granting b at p g ok there fit = rw (ok, lt-ltb _ _ there, fit) (granting _ _ _ _ _ g)
 
+-- where the head and what is left give 0, the base is accepted, the permission there and the context in range
+pub head-passed : (b : List ℕ) (at : Context) (p left : ℕ) → headed b at p left ≡ 0 →
+    (refusalOf b ≡ 0) × (p < permissionCount b) × (outOfRange at ≡ false) × (left ≡ 0)
+head-passed b at p left = by (eqb (refusalOf b) 0) (ltb p (permissionCount b)) (outOfRange at) refl refl refl
+  where
+    by : (r s t : Bool) → eqb (refusalOf b) 0 ≡ r → ltb p (permissionCount b) ≡ s → outOfRange at ≡ t →
+        cond (not r) (refusalOf b) (cond (not s) 10 (cond t 11 left)) ≡ 0 →
+        (refusalOf b ≡ 0) × (p < permissionCount b) × (outOfRange at ≡ false) × (left ≡ 0)
+    by true true false er es et h = (eqb-true _ _ er, ltb-true _ _ es, et, h)
+    by true true true er es et h = absurd (suc-ne-zero 10 h)
+    by true false t er es et h = absurd (suc-ne-zero 9 h)
+    by false s t er es et h = absurd (eqb-false _ _ er h)
+
 -- only an accepted base grants, a permission that is there, in a context in range
 pub decision-head : (b : List ℕ) (at : Context) (p : ℕ) (g : List ℕ) → decisionOf b at p g ≡ 0 →
     (refusalOf b ≡ 0) × (p < permissionCount b) × (outOfRange at ≡ false)
 unfolding decisionOf
-decision-head b at p g = by (eqb (refusalOf b) 0) (ltb p (permissionCount b)) (outOfRange at) refl refl refl
-  where
-    by : (r s t : Bool) → eqb (refusalOf b) 0 ≡ r → ltb p (permissionCount b) ≡ s → outOfRange at ≡ t →
-        cond (not r) (refusalOf b) (cond (not s) 10 (cond t 11 (groupDecision b at p g))) ≡ 0 →
-        (refusalOf b ≡ 0) × (p < permissionCount b) × (outOfRange at ≡ false)
-    by true true false er es et h = (eqb-true _ _ er, ltb-true _ _ es, et)
-    by true true true er es et h = absurd (suc-ne-zero 10 h)
-    by true false t er es et h = absurd (suc-ne-zero 9 h)
-    by false s t er es et h = absurd (eqb-false _ _ er h)
+decision-head b at p g h = let k = head-passed b at p (groupDecision b at p g) h in (k .0, k .1, k .2)
 
 -- role_num of a group's set is the number of different roles acted in
 pub role-num : (g : List ℕ) → roleNum (rolesOf g) ≡ countBelow 8 (actedIn g)

@@ -27,10 +27,13 @@ groupDecision b at p g =
     groupRefusal (userCount b) (roleCount b) (eligible b at p) (λ r. weight b at r p)
     (permissionHolds (tableOf b clauses) p) g
 
--- the head: 1 to 9 of the base, 10 of the permission, 11 of the context
-unfoldable pub decisionOf : List ℕ → Context → ℕ → List ℕ → ℕ
-decisionOf b at p g =
+-- the head: 1 to 9 of the base, 10 of the permission, 11 of the context, before what is left
+abbrev pub headed : List ℕ → Context → ℕ → ℕ → ℕ
+headed b at p left =
     cond (not (eqb (refusalOf b) 0)) (refusalOf b)
     (cond (not (ltb p (permissionCount b))) 10
-    (cond (outOfRange at) 11
-    (groupDecision b at p g)))
+    (cond (outOfRange at) 11 left))
+
+-- the decision: the head, then 12 to 17
+unfoldable pub decisionOf : List ℕ → Context → ℕ → List ℕ → ℕ
+decisionOf b at p g = headed b at p (groupDecision b at p g)

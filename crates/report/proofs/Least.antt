@@ -157,6 +157,14 @@ smallest-is granted d k shown least =
         le-antisymm (at-most granted k (smallest granted) least (smallest-shown granted) m)
         (at-most granted (smallest granted) k (smallest-least granted d) shown l)
 
+-- where more is granted, a number above 0 stays above 0 and doesn't rise
+pub smallest-wider : (less more : List ℕ → Bool) → OfBytes more → ((t : List ℕ) → less t ≡ true → more t ≡ true) →
+    0 < smallest less → (0 < smallest more) × (smallest more ≤ smallest less)
+smallest-wider less more d wider l =
+    let (t, h, e) = smallest-shown less l in
+    let (above, m) = smallest-least more d t (wider t h) in
+    (above, omega arith)
+
 -- a list of n entries holds bytes where each entry's two numbers are bytes
 bytes-of : (t : List ℕ) (n : ℕ) → length t ≡ 2 * n →
     ((j : ℕ) → j < n → getD t (2 * j) 0 < 256) → ((j : ℕ) → j < n → getD t (2 * j + 1) 0 < 256) →

@@ -39,11 +39,14 @@ module _ {b sets : List ℕ} {u : ℕ} (turn : Turn b sets u) where
   finished : 24 ≤ u → ActingSets b sets
   finished past = record { size = turn .size; user = λ v l. turn .done v (omega arith) }
 
+abbrev at-turn : tie.In-loop Inv-loop μ-loop → tie.Start Inv-loop μ-loop
+at-turn c = c .before .before .before
+
 loop-holds : tie.Need-loop-holds Inv-loop μ-loop
 loop-holds c = record { within = omega arith; size = refl; done = λ v l. absurd (not-suc-le-zero l) }
 
 acting-roles-requires : tie.Need-acting-roles-requires Inv-loop μ-loop
-acting-roles-requires c κs = search needs
+acting-roles-requires c κs = (at-turn c .pre .0, at-turn c .pre .1)
 
 array-write-sets : tie.Need-array-write-sets Inv-loop μ-loop
 array-write-sets c = search needs

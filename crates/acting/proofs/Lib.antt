@@ -1,0 +1,2 @@
+pub mod Wider
+pub mod HeadBuyer

@@ -1,0 +1,1 @@
+// Theorems alone: what request Two changed, between holding and acting.
