@@ -25,7 +25,7 @@ use Rattle.decision.specs.Decision.{groupDecision, decisionOf}
 use Rattle.decision.proofs.Granting.{granting, head-passed}
 use Rattle.report.specs.Smallest.{smallestOf}
 use Rattle.report.proofs.Least.{of-decision, smallest-zero, smallest-least}
-use Rattle.acting.specs.Readings.{heldDecision, heldSmallest, headBuyer, BecomesOne}
+use Rattle.acting.specs.Readings.{decisionByHolding, smallestByHolding, headBuyer, BecomesOne}
 use Rattle.acting.proofs.Wider.{of-held}
 
 -- what computing shows of the base
@@ -63,7 +63,7 @@ held-weightless at zero (suc (suc r)) user role held heavy = omega arith
 held-weightless at (suc u) r user role held heavy = omega arith
 
 -- so no group is granted by holding alone
-none-held : (at : Context) (g : List ℕ) → heldDecision headBuyer at 0 g ≡ 0 → ⊥
+none-held : (at : Context) (g : List ℕ) → decisionByHolding headBuyer at 0 g ≡ 0 → ⊥
 none-held at g h =
     let left = head-passed headBuyer at 0 _ h .3 in
     let d = granting _ _ _ _ (permissionHolds (tableOf headBuyer clauses) 0) g .0 left in
@@ -72,8 +72,8 @@ none-held at g h =
     let role : entryRole g 0 < 2 = rw (computed .roles) at (d .role 0 first) in
     held-weightless at (entryUser g 0) (entryRole g 0) user role (d .acting 0 first) (d .heavy 0 first)
 
-zero-held : (at : Context) → heldSmallest headBuyer at 0 ≡ 0
-unfolding heldSmallest
+zero-held : (at : Context) → smallestByHolding headBuyer at 0 ≡ 0
+unfolding smallestByHolding
 zero-held at =
     smallest-zero _ (of-held headBuyer at 0) .1
     (λ g. ⊎-elim (λ h. absurd (none-held at g (eqb-true _ _ h))) (λ h. h) (met-or-not _))

@@ -1,7 +1,7 @@
 -- Each group granted by holding alone is granted by acting, so a smallest number above 0 stays above 0 and doesn't rise.
 use Prim.Native.Nat.{ℕ, _<_, _≤_}
 use mathlib.Core.Bool.{true}
-use mathlib.Core.Path.{_≡_, refl}
+use mathlib.Core.Path.{_≡_, refl, sym, ap, _∙_}
 use mathlib.Core.List.{List}
 use borrow.Author.Tests.{eqb-true, eq-eqb, lt-ltb}
 use lib.Dec.{eqb}
@@ -13,40 +13,50 @@ use Rattle.decision.specs.Conditions.{permissionHolds}
 use Rattle.decision.specs.Decision.{groupDecision, decisionOf}
 use Rattle.decision.proofs.Granting.{head-passed, wider-granted}
 use Rattle.decision.proofs.Agree.{same-refusal}
-use Rattle.report.specs.Smallest.{smallest, smallestOf}
-use Rattle.report.proofs.Least.{OfBytes, of-decision, smallest-wider}
-use Rattle.acting.specs.Readings.{decisionBy, heldDecision, heldSmallest}
+use Rattle.report.specs.Smallest.{smallestOf}
+use Rattle.report.proofs.Least.{OfBytes, of-decision, smallest-shown, smallest-least, smallest-is, smallest-wider}
+use Rattle.acting.specs.Readings.{decisionBy, decisionByHolding, smallestByHolding}
 
 module _ (b : List ℕ) (at : Context) (p : ℕ) where
   -- the decision is the one by acting
-  pub by-acting : (g : List ℕ) → decisionBy (mayAct b) b at p g ≡ decisionOf b at p g
+  pub decision-by-acting : (g : List ℕ) → decisionBy (mayAct b) b at p g ≡ decisionOf b at p g
   unfolding decisionOf groupDecision
-  by-acting g = refl
+  decision-by-acting g = refl
 
   -- each group granted by holding alone is granted
-  pub held-granted : (g : List ℕ) → heldDecision b at p g ≡ 0 → decisionOf b at p g ≡ 0
+  pub held-granted : (g : List ℕ) → decisionByHolding b at p g ≡ 0 → decisionOf b at p g ≡ 0
   unfolding decisionOf groupDecision
   held-granted g h =
       let (ok, there, in-range, left) = head-passed b at p _ h in
       rw (ok, lt-ltb _ _ there, in-range) (wider-granted _ _ _ _ _ (permissionHolds (tableOf b clauses) p) g (held-acting b) left)
 
-  held-too : (g : List ℕ) → eqb (heldDecision b at p g) 0 ≡ true → eqb (decisionOf b at p g) 0 ≡ true
+  held-too : (g : List ℕ) → eqb (decisionByHolding b at p g) 0 ≡ true → eqb (decisionOf b at p g) 0 ≡ true
   held-too g h = eq-eqb _ _ (held-granted g (eqb-true _ _ h))
 
   -- so a smallest number above 0 stays above 0 and doesn't rise
-  pub held-smallest : 0 < heldSmallest b at p → (0 < smallestOf b at p) × (smallestOf b at p ≤ heldSmallest b at p)
-  unfolding heldSmallest smallestOf
+  pub held-smallest : 0 < smallestByHolding b at p → (0 < smallestOf b at p) × (smallestOf b at p ≤ smallestByHolding b at p)
+  unfolding smallestByHolding smallestOf
   held-smallest = smallest-wider _ _ (of-decision b at p) held-too
 
   -- holding alone grants groups of bytes, as the decision does
-  pub of-held : OfBytes (λ g. eqb (heldDecision b at p g) 0)
+  pub of-held : OfBytes (λ g. eqb (decisionByHolding b at p g) 0)
   of-held =
       let d = of-decision b at p in
       record { whole = λ t h. d .whole t (held-too t h); byte = λ t h. d .byte t (held-too t h) }
 
   -- without hierarchy nothing changed
   pub flat-decision : recordCount hierarchy (tableOf b hierarchy) ≡ 0 → (g : List ℕ) →
-      decisionOf b at p g ≡ heldDecision b at p g
+      decisionOf b at p g ≡ decisionByHolding b at p g
   unfolding decisionOf groupDecision
   flat-decision flat g =
       rw (same-refusal _ _ _ _ _ _ _ _ _ _ refl refl (acting-flat b flat) (λ r. refl) (λ n s t. refl) g)
+
+  -- and every number is as it was
+  pub flat-smallest : recordCount hierarchy (tableOf b hierarchy) ≡ 0 → smallestOf b at p ≡ smallestByHolding b at p
+  unfolding smallestOf smallestByHolding
+  flat-smallest flat =
+      sym (smallest-is _ (of-decision b at p) _
+      (λ above.
+      let (t, h, n) = smallest-shown _ above in
+      (t, held-too t h, n))
+      (λ t h. smallest-least _ of-held t (ap (λ (x : ℕ). eqb x 0) (sym (flat-decision flat t)) ∙ h)))

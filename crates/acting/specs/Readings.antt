@@ -1,4 +1,4 @@
--- The decision by any reading of who may stand in a role, to say what request Two changed: before it a user had to hold
+-- The decision by any reading of who may act in a role, to say what request Two changed: before it a user had to hold
 -- the role.
 use Prim.Native.Nat.{ℕ}
 use mathlib.Core.Bool.{Bool, false}
@@ -23,12 +23,12 @@ decisionBy may b at p g =
     (groupRefusal (userCount b) (roleCount b) may (λ r. weight b at r p) (permissionHolds (tableOf b clauses) p) g)
 
 -- the decision by holding alone
-abbrev pub heldDecision : List ℕ → Context → ℕ → List ℕ → ℕ
-heldDecision b at p g = decisionBy (holds b) b at p g
+abbrev pub decisionByHolding : List ℕ → Context → ℕ → List ℕ → ℕ
+decisionByHolding b at p g = decisionBy (holds b) b at p g
 
 -- the smallest number of approvers by holding alone
-unfoldable pub heldSmallest : List ℕ → Context → ℕ → ℕ
-heldSmallest b at p = smallest (λ g. eqb (heldDecision b at p g) 0)
+unfoldable pub smallestByHolding : List ℕ → Context → ℕ → ℕ
+smallestByHolding b at p = smallest (λ g. eqb (decisionByHolding b at p g) 0)
 
 -- a shop with two roles, 0 manager over 1 buyer, whose only user is a head buyer who holds the manager role alone; its
 -- one permission asks for one approver, and only the buyer has weight for it
@@ -52,5 +52,5 @@ headBuyer =
 -- a 0 may become a number: by holding alone nobody releases the head buyer's field, by acting one approver does
 pub record BecomesOne : Type 0 where
   pub passes : refusalOf headBuyer ≡ 0
-  pub by-holding : (at : Context) → heldSmallest headBuyer at 0 ≡ 0
+  pub by-holding : (at : Context) → smallestByHolding headBuyer at 0 ≡ 0
   pub by-acting : (at : Context) → outOfRange at ≡ false → smallestOf headBuyer at 0 ≡ 1

@@ -61,7 +61,7 @@ pub record Marked : Type 0 where
       decisionOf shop (at 480 d z) permission (managerAndClerk 3) ≡ 16
   -- 8. "User 0 twice: 14; user 2 as buyer: 15.", in every context in range
   pub twice : (c : Context) → outOfRange c ≡ false → decisionOf shop c permission user0Twice ≡ 14
-  pub not-held : (c : Context) → outOfRange c ≡ false → decisionOf shop c permission user2AsBuyer ≡ 15
+  pub may-not-act : (c : Context) → outOfRange c ≡ false → decisionOf shop c permission user2AsBuyer ≡ 15
   -- 9. "Parameters 1 and 105 pass with R = 3; 0, 9 and 11 get 5."
   pub parameter-is : (x : ℕ) → parameter (tableOf (withParameter x) users) 3 ≡ x
   pub parameter-roles : (x : ℕ) → roleCount (withParameter x) ≡ 3

@@ -1,4 +1,4 @@
--- Who may act in a role.
+-- Who may act in a role, as request Two has it: refusal 15 asks for this.
 use Prim.Native.Nat.{ℕ}
 use mathlib.Core.Bool.{Bool, _&&_, _||_}
 use mathlib.Core.List.{List}
