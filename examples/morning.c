@@ -22,8 +22,8 @@ struct signing {
 static const struct signing morning[] = {
     {500, 0, 0}, /* the manager, who can't release it alone */
     {530, 0, 1}, /* the manager again: already on the sheet */
-    {560, 2, 1}, /* a clerk as a buyer: a role not held */
-    {590, 2, 2}, /* the same clerk as a clerk: the two suffice */
+    {560, 2, 1}, /* a clerk as a buyer: a role that no clerk may act in */
+    {590, 1, 2}, /* the buyer as a clerk, a junior role: the two suffice */
 };
 
 /* An answer in words: done, or the refusal. */

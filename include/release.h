@@ -47,7 +47,8 @@
 #define RELEASE_SHORTEST_BASE 36
 #define RELEASE_LONGEST_BASE 2364
 
-/* A group has 1 to 6 entries of 2 bytes: user, role acted in. */
+/* A group has 1 to 6 entries of 2 bytes: user, role acted in. A user may act in
+   a role that the user holds, or that is junior to one that the user holds. */
 #define RELEASE_ENTRY_BYTES 2
 #define RELEASE_MOST_ENTRIES 6
 
@@ -60,8 +61,8 @@
 #define RELEASE_CONFLICT_BYTES 3
 
 /* A sheet has 14 bytes: at 0 its permission, at 1 the number of its entries,
-   from 2 on six entries of 2 bytes: user, role. It holds the first of them, as
-   many as byte 1 says; where that is above six, it holds six. */
+   from 2 on six entries of 2 bytes: user, role acted in. It holds the first of
+   them, as many as byte 1 says; where that is above six, it holds six. */
 #define RELEASE_SHEET_BYTES 14
 #define RELEASE_SHEET_PERMISSION 0
 #define RELEASE_SHEET_COUNT 1
@@ -104,7 +105,8 @@ enum release_refusal {
     RELEASE_REFUSAL_NO_USER_OR_ROLE = 13,
     /* A user stands in two entries; of a signing, its user is on the sheet. */
     RELEASE_REFUSAL_USER_TWICE = 14,
-    /* An entry's user doesn't hold its role. */
+    /* An entry's user may not act in its role: the user holds neither it nor a
+       role senior to it. */
     RELEASE_REFUSAL_MEMBERSHIP = 15,
     /* An entry's role has weight 0 for the permission. */
     RELEASE_REFUSAL_NO_WEIGHT = 16,
@@ -170,7 +172,8 @@ uint64_t release_report(const uint8_t *base, size_t base_len,
  * - kind 2: two policies for permissions that exclude each other, and some
  *   role is covered by both, whatever their contexts; a policy covers its role
  *   and, if its type is 1, that role's seniors;
- * - kind 3: a user, and an exclusion whose two roles that user holds.
+ * - kind 3: a user, and an exclusion whose two roles that user holds, by the
+ *   parameter alone.
  * First and second are the records' numbers in A, of kind 3 in U and X. Later
  * bytes of out keep their contents.
  */

@@ -100,6 +100,15 @@ pub fn full_base() -> BaseBuilder {
     }
 }
 
+/// The same where every user holds role 0 alone, and acts in the others as their
+/// senior.
+pub fn from_above() -> BaseBuilder {
+    BaseBuilder {
+        users: users(&[1; 24]),
+        ..full_base()
+    }
+}
+
 /// As many conflicts as a base can have, 2,688. Half the policies are for each
 /// of two permissions that exclude each other, all for one role and with as
 /// different weights and types as there are; the other exclusions are ones of
@@ -157,7 +166,7 @@ mod tests {
 
     #[test]
     fn all_pass_the_check() {
-        for base in [full_base(), most_conflicts(), many_contexts()] {
+        for base in [full_base(), from_above(), most_conflicts(), many_contexts()] {
             assert_eq!(base.bytes().len(), 2_364);
             assert_eq!(agreed_check(&base.bytes()), 0);
         }

@@ -4,7 +4,7 @@ use compare::questions::at_minute;
 use compare::shop::small_shop;
 use model::{Context, Sheet};
 
-use crate::bases::{full_base, many_contexts, most_conflicts, typical_shop};
+use crate::bases::{from_above, full_base, many_contexts, most_conflicts, typical_shop};
 use crate::worst;
 
 #[derive(Clone, Copy, PartialEq, Eq)]
@@ -132,7 +132,9 @@ pub fn cases() -> Vec<Case> {
     let small = small_shop().bytes();
     let typical = typical_shop().bytes();
     let full = full_base().bytes();
+    let above = from_above().bytes();
     let six: Vec<u8> = (0..6).flat_map(|i| [i, i]).collect();
+    let six_below: Vec<u8> = (0..6).flat_map(|i| [i, i + 2]).collect();
     let mut cases = vec![
         case("check small shop", Call::Check, &small, &[]),
         case("check typical shop", Call::Check, &typical, &[]),
@@ -140,17 +142,25 @@ pub fn cases() -> Vec<Case> {
         case("decide small shop", Call::Decide, &small, &[0, 0, 2, 2]),
         case("decide typical shop", Call::Decide, &typical, &[0, 0, 6, 3]),
         case("decide full base", Call::Decide, &full, &six),
+        case("decide from above", Call::Decide, &above, &six_below),
         case("open small shop", Call::Open, &small, &[]),
         case("open typical shop", Call::Open, &typical, &[]),
         case("sign small shop", Call::Sign(2, 2), &small, &[0, 0]),
         case("sign typical shop", Call::Sign(6, 3), &typical, &[0, 0]),
         case("sign full base", Call::Sign(5, 5), &full, &six[..10]),
+        case(
+            "sign from above",
+            Call::Sign(5, 7),
+            &above,
+            &six_below[..10],
+        ),
         case("ask small shop", Call::Ask, &small, &[0, 0, 2, 2]),
         case("ask typical shop", Call::Ask, &typical, &[0, 0, 6, 3]),
         case("ask full base", Call::Ask, &full, &six),
         report("report small shop", &small),
         report("report typical shop", &typical),
         report("report full base", &full),
+        report("report from above", &above),
     ];
     let plans = twin::worst::all().map(|(name, plan)| (name, plan.bytes()));
     let made = worst::all().map(|(name, base)| (name, base.bytes()));
@@ -201,8 +211,13 @@ mod tests {
         for case in cases() {
             let answers = ALL.map(|who| case.answer(who, &mut [0; 3 * 2_784]));
             assert!(answers.iter().all(|answer| *answer == answers[0]));
-            let full = matches!(&case.name[..], "decide full base" | "ask full base");
-            assert_eq!(answers[0] % 256, if full { 17 } else { 0 }, "{}", case.name);
+            let unmet = ["decide full base", "decide from above", "ask full base"];
+            let refusal = if unmet.contains(&&case.name[..]) {
+                17
+            } else {
+                0
+            };
+            assert_eq!(answers[0] % 256, refusal, "{}", case.name);
         }
     }
 }

@@ -1,6 +1,6 @@
 //! Random bases of every number of roles, whose clauses cap or name sums,
-//! numbers and roles: with few users or many, of few roles or many, and with
-//! weights that are equal, even or any.
+//! numbers and roles: with few users or many, of few roles or many, at times of
+//! the first roles alone, and with weights that are equal, even or any.
 
 use crate::builder::*;
 use crate::random::Random;
@@ -13,7 +13,8 @@ pub fn capped_base(random: &mut Random, roles: u8) -> BaseBuilder {
     let mut base = BaseBuilder::new(roles).with_permissions(permissions.into());
     let users = random.pick(&[3, 5, 6, 6, 7, 8, 12, 24]);
     let one_in = random.pick(&[1, 2, 3, 6]);
-    base.users = times(users, || user(random, roles, one_in));
+    let held = random.pick(&[roles, roles, roles.div_ceil(2)]);
+    base.users = times(users, || user(random, held, one_in));
     if roles > 1 {
         base.hierarchy = times(random.pick(&[0, 0, 1, 3, 12]), || {
             let (senior, junior) = rising_pair(random, roles);
@@ -30,7 +31,7 @@ pub fn capped_base(random: &mut Random, roles: u8) -> BaseBuilder {
     base
 }
 
-/// A user who holds about one in so many of the roles.
+/// A user who holds about one in so many of the first roles.
 fn user(random: &mut Random, roles: u8, one_in: usize) -> User {
     let codes = CODES[..usize::from(roles)].iter();
     let parameter = codes.filter(|_| random.chance(one_in)).product();

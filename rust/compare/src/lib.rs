@@ -1,5 +1,6 @@
 //! Bases to try, and the comparison of the library's answers with the model's.
 
+pub mod acting;
 pub mod builder;
 pub mod capped;
 pub mod cases;

@@ -4,14 +4,17 @@ use crate::builder::*;
 use crate::random::Random;
 use crate::valid::{random_exclusion, random_permission, rising_pair, times};
 
-/// A random base with one to `most_users` users that passes the check.
+/// A random base with one to `most_users` users that passes the check. In half
+/// of them users hold any roles, in the others only the first ones, where the
+/// seniors are.
 pub fn lively_base(random: &mut Random, most_users: usize) -> BaseBuilder {
-    let roles = random.pick(&[1, 2, 3, 3, 4, 4, 5, 6, 7, 8]);
+    let roles: u8 = random.pick(&[1, 2, 3, 3, 4, 4, 5, 6, 7, 8]);
     let permissions = random.pick(&[1, 1, 2, 2, 3, 4, 6, 16]);
     let users = 1 + random.below(most_users);
+    let held = random.pick(&[roles, roles, roles.div_ceil(2), 1]);
     let mut base = BaseBuilder::new(roles);
     base.hierarchy = hierarchy(random, roles);
-    base.users = times(users, || user(random, roles));
+    base.users = times(users, || user(random, held));
     base.permissions = times(permissions.into(), || random_permission(random));
     base.group_clauses = group_clauses(random, roles, permissions);
     let numbers = context_numbers(random);
@@ -97,7 +100,7 @@ fn hierarchy(random: &mut Random, roles: u8) -> Vec<Edge> {
     records
 }
 
-/// Mostly one role or two; at times none, or all.
+/// Mostly one role or two of the first; at times none, or all.
 fn user(random: &mut Random, roles: u8) -> User {
     let mut codes = CODES[..usize::from(roles)].to_vec();
     random.shuffle(&mut codes);
@@ -326,7 +329,8 @@ mod tests {
 
     #[test]
     fn every_wrong_reading_comes_up() {
-        for reading in Reading::WRONG {
+        let of_paper = Reading::WRONG.into_iter();
+        for reading in of_paper.chain(Reading::WRONG_OF_ACTING) {
             let [decisions, reports] = differences(reading);
             println!("{reading:?}: {decisions} decisions, {reports} reports");
             let only_the_search = reading == Reading::HeaviestUsers;

@@ -89,20 +89,27 @@ fn bases(random: &mut Random, records: &BaseBuilder) -> Vec<Vec<u8>> {
     ]
 }
 
-/// The base with some users gone from its end, or with other roles for some.
+/// The base with some users gone from its end, with other roles for some, or
+/// with fewer H records.
 fn with_other_members(random: &mut Random, records: &BaseBuilder) -> BaseBuilder {
     let mut changed = records.clone();
-    if random.chance(2) {
-        changed
-            .users
-            .truncate(random.below(records.users.len() + 1));
-    } else {
-        let codes = &CODES[..usize::from(records.roles)];
-        for user in &mut changed.users {
-            if random.chance(3) {
-                let parameter = random.pick(codes);
-                *user = User { parameter };
+    match random.below(3) {
+        0 => {
+            let users = random.below(records.users.len() + 1);
+            changed.users.truncate(users);
+        }
+        1 => {
+            let codes = &CODES[..usize::from(records.roles)];
+            for user in &mut changed.users {
+                if random.chance(3) {
+                    let parameter = random.pick(codes);
+                    *user = User { parameter };
+                }
             }
+        }
+        _ => {
+            let one_in = random.pick(&[1, 2, 4]);
+            changed.hierarchy.retain(|_| !random.chance(one_in));
         }
     }
     changed
@@ -260,12 +267,17 @@ mod tests {
 
     #[test]
     fn every_wrong_reading_comes_up() {
-        for reading in Reading::WRONG_ON_SHEETS {
+        let on_sheets = Reading::WRONG_ON_SHEETS.into_iter();
+        for reading in on_sheets.chain(Reading::WRONG_OF_ACTING) {
             let found = differences(reading);
             println!("{reading:?}: {found:?}");
             let shows = match reading {
                 Reading::PermissionKept => [true, false, false],
-                Reading::OverSixAsNone => [false, true, true],
+                Reading::OverSixAsNone
+                | Reading::HeldAlone
+                | Reading::DirectJuniors
+                | Reading::SeniorsToo => [false, true, true],
+                Reading::SeniorInSet | Reading::SeniorsWeight => [false, false, true],
                 _ => [false, true, false],
             };
             assert_eq!(found.map(|count| count > 0), shows, "{reading:?}");

@@ -106,13 +106,22 @@ pub fn any_group(random: &mut Random, question: &Question) -> Vec<u8> {
     }
 }
 
-/// Different users, each in a role held that has weight, if there are any.
+/// Different users, each in a role with weight that the user may act in, if
+/// there are any: any such role, one held where there is one, or one not held.
 pub(crate) fn sound_group(random: &mut Random, question: &Question) -> Vec<[u8; 2]> {
     let mut users: Vec<u8> = (0..question.base.users.len() as u8).collect();
     random.shuffle(&mut users);
     let count = 1 + random.below(6);
+    let wanted = random.pick(&[None, Some(true), Some(false)]);
     let entries = users.into_iter().filter_map(|user| {
-        let choices: Vec<Entry> = question.entries_of(user).collect();
+        let mut choices: Vec<Entry> = question.entries_of(user).collect();
+        let is_wanted = |entry: &Entry| {
+            let held = question.base.holds(entry.user, entry.role);
+            wanted.is_none_or(|wanted| held == wanted)
+        };
+        if choices.iter().any(is_wanted) {
+            choices.retain(is_wanted);
+        }
         (!choices.is_empty()).then(|| random.pick(&choices).bytes())
     });
     entries.take(count).collect()
@@ -161,12 +170,13 @@ fn spoil_entry(random: &mut Random, question: &Question, group: &mut [[u8; 2]]) 
     let roles = question.base.roles;
     let place = random.below(group.len());
     let other = random.below(group.len());
-    match random.below(10) {
+    match random.below(13) {
         0 => group[place][0] = random.pick(&[users, users + 1, 255]),
         1 => group[place][1] = random.pick(&[roles, 8, 9, 255]),
         2 => group[place][0] = group[other][0],
         3 | 4 => group[place][1] = random.between(0, roles - 1),
         5 => group[place] = random_entry(random, question),
+        6..=8 => shut_role(random, question, &mut group[place]),
         _ => weightless_entry(random, question, &mut group[place]),
     }
 }
@@ -176,7 +186,18 @@ fn random_entry(random: &mut Random, question: &Question) -> [u8; 2] {
     [user, random.between(0, question.base.roles - 1)]
 }
 
-/// Puts a user in a role held that has no weight, if one does.
+/// Puts the user into a role that the user may not act in, if there is one.
+fn shut_role(random: &mut Random, question: &Question, entry: &mut [u8; 2]) {
+    let roles = 0..question.base.roles;
+    let shut: Vec<u8> = roles
+        .filter(|role| !question.base.may_act(entry[0], *role))
+        .collect();
+    if !shut.is_empty() {
+        entry[1] = random.pick(&shut);
+    }
+}
+
+/// Puts a user who may act in a role without weight into it, if there is one.
 fn weightless_entry(random: &mut Random, question: &Question, entry: &mut [u8; 2]) {
     let mut choices = Vec::new();
     for user in 0..question.base.users.len() as u8 {

@@ -74,7 +74,7 @@ mod tests {
     use crate::shop::small_shop;
 
     /// The fault of a record of the small shop's permission, whose smallest
-    /// number is 2. By day the users weigh 5, 2, 1 and 1.
+    /// number is 2. By day the roles weigh 5, 2 and 1.
     fn fault_of(start: &[u8], left: u8) -> Option<&'static str> {
         let mut record = [left; RECORD];
         record[..start.len()].copy_from_slice(start);
@@ -83,7 +83,7 @@ mod tests {
 
     #[test]
     fn every_smallest_group_by_rising_user_will_do() {
-        for group in [[0, 0, 1, 1], [0, 0, 2, 2], [0, 0, 3, 2]] {
+        for group in [[0, 0, 1, 1], [0, 0, 1, 2], [0, 0, 2, 2], [0, 0, 3, 2]] {
             let start = [&[2], &group[..]].concat();
             assert_eq!(fault_of(&start, 255), None);
         }

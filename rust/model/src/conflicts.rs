@@ -1,5 +1,6 @@
 //! The conflict list.
 
+use crate::acting::Acting;
 use crate::answer::Answer;
 use crate::base::Base;
 use crate::reading::Reading;
@@ -53,7 +54,8 @@ fn list_by(reading: Reading, base: &Base) -> Vec<Conflict> {
     let constraint_conflicts = policy_pairs(base, 2, |one, other| {
         are_exclusive(base, one.permission, other.permission) && cover.shared(one, other)
     });
-    [policy_conflicts, constraint_conflicts, role_conflicts(base)].concat()
+    let role_conflicts = role_conflicts(reading, base);
+    [policy_conflicts, constraint_conflicts, role_conflicts].concat()
 }
 
 /// The pairs of policies that conflict, as records of this kind.
@@ -112,13 +114,18 @@ impl Cover {
 }
 
 /// Kind 3: a user and an exclusion of kind 0 of which the user holds both
-/// roles.
-fn role_conflicts(base: &Base) -> Vec<Conflict> {
+/// roles, by the parameter alone.
+fn role_conflicts(reading: Reading, base: &Base) -> Vec<Conflict> {
+    let acting = Acting::by(reading, base);
+    let has = |user, role| match reading {
+        Reading::ActedInAsHeld => acting.may_act(user, role),
+        _ => base.holds(user, role),
+    };
     let mut list = Vec::new();
     for user in 0..base.users.len() as u8 {
         for (record, exclusion) in (0..).zip(&base.exclusions) {
             if let Exclusion::Roles(a, b) = exclusion {
-                if base.holds(user, *a) && base.holds(user, *b) {
+                if has(user, *a) && has(user, *b) {
                     list.push([3, user, record]);
                 }
             }
@@ -304,6 +311,9 @@ mod tests {
         assert_eq!(counts(Reading::RelatedToItself, &no_clause), [0, 1]);
         let senior = exclusive(&[(0, 0, false), (2, 1, false)]);
         assert_eq!(counts(Reading::SeniorsCovered, &senior), [0, 1]);
+        let mut manager = small_shop();
+        manager.exclusions = vec![Exclusion::Roles(0, 2), Exclusion::Roles(1, 2)];
+        assert_eq!(counts(Reading::ActedInAsHeld, &manager), [0, 3]);
     }
 
     #[test]

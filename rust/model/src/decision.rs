@@ -1,5 +1,6 @@
 //! The decision for one group.
 
+use crate::acting::Acting;
 use crate::base::Base;
 use crate::context::Context;
 use crate::group::{entries, Attributes, Entry};
@@ -28,6 +29,7 @@ pub struct Question<'a> {
     permission: u8,
     /// Each role's weight for the permission.
     weights: Vec<u32>,
+    acting: Acting<'a>,
     reading: Reading,
 }
 
@@ -48,6 +50,7 @@ impl<'a> Question<'a> {
             base,
             permission,
             weights,
+            acting: Acting::by(reading, base),
             reading,
         })
     }
@@ -59,10 +62,7 @@ impl<'a> Question<'a> {
         refuse_if(any(&|entry| !self.is_there(entry)), Refusal::NoUserOrRole)?;
         refuse_if(has_user_twice(&group), Refusal::UserTwice)?;
         refuse_if(any(&|entry| !self.is_eligible(entry)), Refusal::Membership)?;
-        refuse_if(
-            any(&|entry| self.weight(entry.role) == 0),
-            Refusal::NoWeight,
-        )?;
+        refuse_if(any(&|entry| self.weight_of(entry) == 0), Refusal::NoWeight)?;
         refuse_if(
             !self.condition_holds(self.attributes(&group)),
             Refusal::Condition,
@@ -79,24 +79,50 @@ impl<'a> Question<'a> {
 
     /// Whether the entry's user may act in its role for this permission.
     fn is_eligible(&self, entry: &Entry) -> bool {
-        self.base.may_act(entry.user, entry.role)
+        self.acting.may_act(entry.user, entry.role)
     }
 
     pub fn weight(&self, role: Role) -> u32 {
         self.weights[usize::from(role)]
     }
 
+    /// What an entry weighs: the weight of the role acted in.
+    pub fn weight_of(&self, entry: &Entry) -> u32 {
+        let role = match self.reading {
+            Reading::SeniorsWeight => self.through(entry),
+            _ => entry.role,
+        };
+        self.weight(role)
+    }
+
+    /// The role held through which the entry's user acts.
+    fn through(&self, entry: &Entry) -> Role {
+        let held = self.acting.through(entry.user, entry.role);
+        held.unwrap_or(entry.role)
+    }
+
     /// The entries that a user may stand in: eligible and with weight.
     pub fn entries_of(&self, user: u8) -> impl Iterator<Item = Entry> + '_ {
         (0..self.base.roles)
             .map(move |role| Entry { user, role })
-            .filter(|entry| self.is_eligible(entry) && self.weight(entry.role) > 0)
+            .filter(|entry| self.is_eligible(entry) && self.weight_of(entry) > 0)
     }
 
     fn attributes(&self, group: &[Entry]) -> Attributes {
-        group.iter().fold(Attributes::default(), |before, entry| {
-            before.joined_by(entry.role, self.weight(entry.role))
-        })
+        let nobody = Attributes::default();
+        group
+            .iter()
+            .fold(nobody, |before, entry| self.joined(before, entry))
+    }
+
+    /// The attributes with one more entry. The set of roles gets the role acted
+    /// in.
+    pub fn joined(&self, before: Attributes, entry: &Entry) -> Attributes {
+        let mut after = before.joined_by(entry.role, self.weight_of(entry));
+        if self.reading == Reading::SeniorInSet {
+            after.role_set = after.role_set.with(self.through(entry));
+        }
+        after
     }
 
     /// Whether one of the permission's K clauses holds.
@@ -124,7 +150,10 @@ fn has_user_twice(group: &[Entry]) -> bool {
 #[cfg(test)]
 mod tests {
     use super::*;
-    use crate::samples::{at_minute, random_base, small_shop, user, Draws, SMALL_SHOP};
+    use crate::operator::Comparison;
+    use crate::records::{GroupCondition, Measure};
+    use crate::roles::RoleSet;
+    use crate::samples::*;
 
     const MANAGER: [u8; 2] = [0, 0];
     const BUYER: [u8; 2] = [1, 1];
@@ -159,7 +188,7 @@ mod tests {
     }
 
     #[test]
-    fn marked_case_8_a_user_twice_or_in_a_role_not_held() {
+    fn marked_case_8_a_user_twice_or_a_clerk_as_buyer() {
         assert_eq!(ask(600, &[MANAGER, MANAGER]), 14);
         assert_eq!(ask(600, &[MANAGER, [0, 1]]), 14);
         assert_eq!(ask(600, &[MANAGER, [2, 1]]), 15);
@@ -210,13 +239,13 @@ mod tests {
 
     #[test]
     fn each_check_goes_over_all_entries_before_the_next() {
-        let (not_held, no_weight) = ([1, 2], [2, 2]);
-        let rising = [[9, 9], MANAGER, MANAGER, not_held, no_weight];
+        let (as_senior, no_weight) = ([1, 0], [2, 2]);
+        let rising = [[9, 9], MANAGER, MANAGER, as_senior, no_weight];
         assert_eq!(ask(480, &rising), 13);
         assert_eq!(ask(480, &rising[1..]), 14);
         assert_eq!(ask(480, &rising[2..]), 15);
         assert_eq!(ask(480, &[MANAGER, no_weight]), 16);
-        let falling = [no_weight, not_held, MANAGER, MANAGER, [9, 9]];
+        let falling = [no_weight, as_senior, MANAGER, MANAGER, [9, 9]];
         assert_eq!(ask(480, &falling), 13);
         assert_eq!(ask(480, &falling[..4]), 14);
         assert_eq!(ask(480, &falling[..3]), 15);
@@ -229,12 +258,70 @@ mod tests {
     }
 
     #[test]
-    fn a_user_without_roles_holds_none() {
+    fn a_user_without_roles_acts_in_none() {
         let mut shop = small_shop();
         shop.users[0] = user(&[]);
         for role in 0..3 {
             assert_eq!(answer(&shop, &[0, role]), 15);
         }
+    }
+
+    /// By day the roles weigh 5, 2 and 1.
+    #[test]
+    fn a_senior_acts_as_its_juniors_and_no_junior_as_its_seniors() {
+        assert_eq!(ask(600, &[[0, 1], BUYER, CLERK]), 0);
+        assert_eq!(ask(600, &[[0, 1], BUYER]), 17);
+        assert_eq!(ask(600, &[[0, 2], [1, 2], CLERK, OTHER_CLERK]), 17);
+        for entry in [[1, 0], [2, 0], [2, 1], [3, 0], [3, 1]] {
+            assert_eq!(ask(600, &[MANAGER, entry]), 15);
+        }
+    }
+
+    #[test]
+    fn a_user_in_a_role_held_and_its_junior_stands_twice() {
+        assert_eq!(ask(600, &[MANAGER, [0, 1]]), 14);
+        assert_eq!(ask(600, &[[1, 2], BUYER]), 14);
+    }
+
+    #[test]
+    fn the_weight_is_that_of_the_role_acted_in() {
+        assert_eq!(ask(480, &[[0, 2], BUYER]), 16);
+        assert_eq!(ask(480, &[[1, 2]]), 16);
+    }
+
+    /// The small shop's answer by a reading for one condition on a group.
+    fn by_condition(reading: Reading, condition: GroupCondition, group: &[u8]) -> u8 {
+        let mut shop = small_shop();
+        shop.group_clauses = vec![group_clause(&[condition])];
+        let question = Question::new(&shop, 0, at_minute(600), reading);
+        number(question.and_then(|question| question.ask(group)))
+    }
+
+    #[test]
+    fn the_set_has_the_role_acted_in_alone() {
+        let contains = |bits| GroupCondition::Contains(RoleSet::from_bits(bits, 3).unwrap());
+        let roles = |count| GroupCondition::Compare(Measure::RoleNum, Comparison::Equal, count);
+        let expect = |condition: GroupCondition, answers: [u8; 2]| {
+            let readings = [Reading::Paper, Reading::SeniorInSet];
+            let found = readings.map(|reading| by_condition(reading, condition.clone(), &[0, 2]));
+            assert_eq!(found, answers, "{condition:?}");
+        };
+        expect(contains(0b100), [0, 0]);
+        expect(contains(0b001), [17, 0]);
+        expect(contains(0b010), [17, 17]);
+        expect(roles(1), [0, 17]);
+        expect(roles(2), [17, 0]);
+    }
+
+    #[test]
+    fn a_wrong_reading_weighs_the_role_held() {
+        let sum = |sum| GroupCondition::Compare(Measure::TotalWeight, Comparison::Equal, sum);
+        let by = |reading, value| by_condition(reading, sum(value), &[0, 1]);
+        assert_eq!([2, 5].map(|value| by(Reading::Paper, value)), [0, 17]);
+        let wrong = Reading::SeniorsWeight;
+        assert_eq!([2, 5].map(|value| by(wrong, value)), [17, 0]);
+        let early = decide_by(wrong, &SMALL_SHOP, 0, at_minute(480), &[0, 2, 1, 1]);
+        assert_eq!(early, 0);
     }
 
     #[test]

@@ -4,6 +4,7 @@
 //! A [`Base`] exists only for bytes that pass refusals 1 to 9, so whatever
 //! works on a `Base` can rely on every record.
 
+mod acting;
 mod answer;
 mod base;
 mod check;
@@ -30,6 +31,7 @@ mod signings;
 mod smallest;
 mod weight;
 
+pub use acting::Acting;
 pub use answer::Answer;
 pub use base::Base;
 pub use check::check;

@@ -1,4 +1,4 @@
-//! Who holds a role, and who may act in one.
+//! Who holds a role.
 
 use crate::base::Base;
 use crate::roles::Role;
@@ -9,11 +9,6 @@ impl Base {
     pub fn holds(&self, user: u8, role: Role) -> bool {
         let user = self.users.get(usize::from(user));
         user.is_some_and(|user| user.roles.has(role))
-    }
-
-    /// Whether the user may act in the role: it is one that the user holds.
-    pub fn may_act(&self, user: u8, role: Role) -> bool {
-        self.holds(user, role)
     }
 }
 
@@ -39,9 +34,11 @@ mod tests {
         assert!(!small_shop().holds(255, 2));
     }
 
+    /// The manager is over the buyer, but doesn't hold that role.
     #[test]
-    fn a_senior_does_not_act_in_a_junior_role() {
-        assert!(small_shop().may_act(0, 0));
-        assert!(!small_shop().may_act(0, 1));
+    fn the_hierarchy_plays_no_part() {
+        let held = |user| [0, 1, 2].map(|role| small_shop().holds(user, role));
+        assert_eq!(held(0), [true, false, false]);
+        assert_eq!(held(1), [false, true, false]);
     }
 }

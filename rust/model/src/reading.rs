@@ -1,8 +1,8 @@
 //! How the rules are read.
 
-/// The paper's reading, or a wrong one: those that it warns of, and some of the
-/// conflict list and of sheets. A test can take a wrong one to show that the
-/// comparison notices it.
+/// The paper's reading with the requests', or a wrong one: those that the paper
+/// warns of, and some of the conflict list, of sheets and of who may act as
+/// what. A test can take a wrong one to show that the comparison notices it.
 #[derive(Clone, Copy, Debug, Default, PartialEq, Eq)]
 pub enum Reading {
     #[default]
@@ -37,6 +37,19 @@ pub enum Reading {
     AnotherRole,
     /// A sheet that claims over six entries holds none.
     OverSixAsNone,
+    /// A user acts in the roles held alone.
+    HeldAlone,
+    /// A user acts in the juniors that an H record names, not in those behind
+    /// them.
+    DirectJuniors,
+    /// A user acts in roles that are senior to one held too.
+    SeniorsToo,
+    /// The set of roles has the role held, through which the user acts, too.
+    SeniorInSet,
+    /// An entry weighs what the role held, through which the user acts, weighs.
+    SeniorsWeight,
+    /// A conflict of kind 3 is a user who may act in both roles.
+    ActedInAsHeld,
 }
 
 impl Reading {
@@ -51,10 +64,11 @@ impl Reading {
     ];
 
     /// Wrong readings that only the conflict list shows.
-    pub const WRONG_IN_LISTS: [Reading; 3] = [
+    pub const WRONG_IN_LISTS: [Reading; 4] = [
         Reading::WeightAndType,
         Reading::RelatedToItself,
         Reading::SeniorsCovered,
+        Reading::ActedInAsHeld,
     ];
 
     /// Wrong readings that only sheets show.
@@ -64,6 +78,15 @@ impl Reading {
         Reading::FullFirst,
         Reading::AnotherRole,
         Reading::OverSixAsNone,
+    ];
+
+    /// Wrong readings of who may act, and as what.
+    pub const WRONG_OF_ACTING: [Reading; 5] = [
+        Reading::HeldAlone,
+        Reading::DirectJuniors,
+        Reading::SeniorsToo,
+        Reading::SeniorInSet,
+        Reading::SeniorsWeight,
     ];
 }
 

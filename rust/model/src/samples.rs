@@ -37,9 +37,28 @@ pub fn small_shop() -> Base {
 /// A base of three roles, one permission and eight users with these
 /// parameters.
 pub fn eight_users(parameters: [u32; 8]) -> Vec<u8> {
-    let places: [u16; 14] = [0, 0, 0, 8, 32, 1, 34, 0, 34, 0, 34, 0, 34, 0];
-    let tables = [&parameters.map(u32::to_le_bytes).concat()[..], &[1, 1]].concat();
-    let places = places.map(u16::to_le_bytes).concat();
+    eight_ranked_users(&[], parameters)
+}
+
+/// The same with these H records.
+pub fn eight_ranked_users(hierarchy: &[[u8; 2]], parameters: [u32; 8]) -> Vec<u8> {
+    let users = 2 * hierarchy.len() as u16;
+    let permissions = users + 32;
+    let end = permissions + 2;
+    let records = hierarchy.len() as u16;
+    let places = [
+        [0, records],
+        [users, 8],
+        [permissions, 1],
+        [end, 0],
+        [end, 0],
+        [end, 0],
+        [end, 0],
+    ];
+    let parameters = parameters.map(u32::to_le_bytes).concat();
+    let places = places.as_flattened().iter();
+    let places: Vec<u8> = places.flat_map(|place| place.to_le_bytes()).collect();
+    let tables = [hierarchy.as_flattened(), &parameters, &[1, 1]].concat();
     [&tables[..], &places, &[3, 0, 0, 0], b"LCAP"].concat()
 }
 

@@ -12,11 +12,17 @@ pub struct Seniority([[bool; ROLES]; ROLES]);
 
 impl Seniority {
     pub fn of(base: &Base) -> Seniority {
+        let Seniority(mut leads) = Seniority::direct(base);
+        close(&mut leads);
+        Seniority(leads)
+    }
+
+    /// By chains of one record alone: what a wrong reading takes.
+    pub fn direct(base: &Base) -> Seniority {
         let mut leads = [[false; ROLES]; ROLES];
         for edge in &base.hierarchy {
             leads[usize::from(edge.senior)][usize::from(edge.junior)] = true;
         }
-        close(&mut leads);
         Seniority(leads)
     }
 

@@ -1,6 +1,7 @@
 //! The sheet that collects signatures: a permission, the number of entries and
 //! six entries.
 
+use crate::acting::Acting;
 use crate::base::Base;
 use crate::context::Context;
 use crate::decision::decide_by;
@@ -97,7 +98,7 @@ fn new_entry(
         _ => other.user == entry.user,
     });
     refuse_if(signed, Refusal::UserTwice)?;
-    let may_act = base.may_act(entry.user, entry.role);
+    let may_act = Acting::by(reading, base).may_act(entry.user, entry.role);
     refuse_if(!may_act, Refusal::Membership)?;
     refuse_if(full, Refusal::SheetFull)?;
     Ok(entry)
@@ -207,6 +208,39 @@ mod tests {
         assert_eq!(sheet_sign(&base, 0, 1, &mut sheet), 14);
         assert_eq!(sheet_sign(&base, 0, 0, &mut sheet), 14);
         assert_eq!(sheet, [0, 1, 0, 0, 0, 0, 0, 0, 0, 0, 0, 0, 0, 0]);
+    }
+
+    #[test]
+    fn a_user_signs_in_roles_held_and_below() {
+        for (user, role) in [(0, 0), (0, 1), (0, 2), (1, 1), (1, 2), (2, 2), (3, 2)] {
+            let (answer, sheet) = signed(user, role, [0; 14]);
+            assert_eq!((answer, &sheet[..2]), (0, &[0, 1][..]));
+            assert_eq!(sheet[2..4], [user as u8, role as u8]);
+        }
+        for (user, role) in [(1, 0), (2, 0), (2, 1), (3, 0), (3, 1)] {
+            assert_eq!(refused(user, role, [0; 14]), 15);
+        }
+    }
+
+    #[test]
+    fn a_user_who_signed_as_a_junior_has_signed() {
+        let (_, sheet) = signed(0, 2, [0; 14]);
+        for role in 0..3 {
+            assert_eq!(refused(0, role, sheet), 14);
+        }
+    }
+
+    /// The buyer signs as clerk; where the manager is over both, the buyer may
+    /// not.
+    #[test]
+    fn asking_looks_at_the_hierarchy_anew() {
+        let (_, mut sheet) = signed(1, 2, [0; 14]);
+        let mut apart = SMALL_SHOP;
+        apart[2] = 0;
+        assert_eq!(sheet_ask(&SMALL_SHOP, at_minute(600), &sheet), 17);
+        assert_eq!(sheet_ask(&apart, at_minute(600), &sheet), 15);
+        assert_eq!(sheet_sign(&apart, 1, 2, &mut sheet), 14);
+        assert_eq!(sheet_sign(&apart, 1, 2, &mut [0; 14]), 15);
     }
 
     /// User 256 is no user, and so isn't user 0, who is on the sheet.

@@ -49,7 +49,7 @@ pub fn sheet_holding(permission: u8, entries: &[Entry]) -> Sheet {
 mod tests {
     use super::*;
     use crate::reading::Reading;
-    use crate::samples::{eight_users, small_shop, Draws};
+    use crate::samples::{eight_ranked_users, eight_users, small_shop, Draws};
     use crate::sheet::sheet_sign_by;
 
     fn signing(base: Option<&Base>, user: u32, role: u32) -> Signing<'_> {
@@ -109,10 +109,22 @@ mod tests {
         assert_eq!(sheet_holding(255, &[])[..3], [255, 0, 0]);
     }
 
-    /// A base of eight users with any roles, at times one that doesn't pass.
+    #[test]
+    fn a_signing_in_a_junior_role_is_accepted() {
+        let shop = small_shop();
+        let list = [(1, 2), (1, 1), (2, 1), (0, 1), (0, 0)];
+        let list = list.map(|(user, role)| signing(Some(&shop), user, role));
+        assert_eq!(bytes(&accepted(&list)), [[1, 2], [0, 1]]);
+    }
+
+    /// A base of eight users with any roles and any H records, at times one
+    /// that doesn't pass.
     fn any_base(draws: &mut Draws) -> Vec<u8> {
         let parameters = [1, 3, 5, 7, 15, 21, 35, 105, 105, 105];
-        let mut base = eight_users([0; 8].map(|_: u32| parameters[draws.below(10)]));
+        let parameters = [0; 8].map(|_: u32| parameters[draws.below(10)]);
+        let first = draws.below(4);
+        let records = &[[0, 2], [0, 1], [1, 2]][first..];
+        let mut base = eight_ranked_users(records, parameters);
         if draws.below(10) == 0 {
             base.pop();
         }
@@ -154,7 +166,13 @@ mod tests {
 
     #[test]
     fn wrong_readings_of_signing_hold_others() {
-        for reading in [Reading::AnotherRole, Reading::PermissionAtSigning] {
+        let of_sheets = [Reading::AnotherRole, Reading::PermissionAtSigning];
+        let of_acting = [
+            Reading::HeldAlone,
+            Reading::DirectJuniors,
+            Reading::SeniorsToo,
+        ];
+        for reading in of_sheets.into_iter().chain(of_acting) {
             let [found, _] = disagreements(reading);
             assert!(found > 100, "{reading:?}: {found} lists");
         }

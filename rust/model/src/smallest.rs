@@ -77,7 +77,7 @@ pub fn smallest_group(question: &Question) -> Option<Vec<Entry>> {
 
 /// All attributes that groups of up to six can have, and at place 0 those of
 /// nobody. User by user: what is reached by the users before stays reached,
-/// and the user may join each of it in each of the user's roles.
+/// and the user may join each of it in each role that the user may act in.
 fn reach(question: &Question) -> Vec<Reached> {
     let nobody = Reached {
         attributes: Attributes::default(),
@@ -93,7 +93,7 @@ fn reach(question: &Question) -> Vec<Reached> {
                 continue;
             }
             for &entry in &entries {
-                let attributes = attributes.joined_by(entry.role, question.weight(entry.role));
+                let attributes = question.joined(attributes, &entry);
                 if seen.insert(attributes) {
                     let last = Some((entry, before));
                     reached.push(Reached { attributes, last });
@@ -119,7 +119,7 @@ fn group_at(reached: &[Reached], mut place: usize) -> Vec<Entry> {
 /// tried, each in the heaviest role.
 pub fn heaviest_group(question: &Question) -> Option<Vec<Entry>> {
     let users = 0..question.base.users.len() as u8;
-    let weight = |entry: &Entry| question.weight(entry.role);
+    let weight = |entry: &Entry| question.weight_of(entry);
     let mut heaviest: Vec<Entry> = users
         .filter_map(|user| question.entries_of(user).max_by_key(weight))
         .collect();
@@ -200,29 +200,39 @@ mod tests {
         assert_eq!(for_clause(&[(RoleNum, AtMost, 0)]), 0);
     }
 
-    /// By day the users weigh 5, 2, 1 and 1.
+    /// By day the manager weighs 5, 2 or 1, the buyer 2 or 1, the clerks 1.
     #[test]
     fn a_cap_on_the_sum_is_met_by_light_users() {
         assert_eq!(for_clause(&[(TotalWeight, Equal, 3)]), 2);
-        assert_eq!(for_clause(&[(TotalWeight, Equal, 4)]), 3);
+        assert_eq!(for_clause(&[(TotalWeight, Equal, 4)]), 2);
         assert_eq!(for_clause(&[(TotalWeight, Equal, 9)]), 4);
         assert_eq!(for_clause(&[(TotalWeight, Less, 2)]), 1);
         assert_eq!(for_clause(&[(TotalWeight, Greater, 9)]), 0);
-        assert_eq!(
-            for_clause(&[(ColNum, AtLeast, 3), (TotalWeight, Less, 5)]),
-            3
-        );
-        assert_eq!(
-            for_clause(&[(ColNum, AtLeast, 3), (TotalWeight, Less, 4)]),
-            0
-        );
+        let three_below = |sum| for_clause(&[(ColNum, AtLeast, 3), (TotalWeight, Less, sum)]);
+        assert_eq!([5, 4, 3].map(three_below), [3, 3, 0]);
     }
 
     #[test]
     fn different_roles_need_different_users() {
         assert_eq!(for_clause(&[(RoleNum, Equal, 3)]), 3);
-        assert_eq!(for_clause(&[(RoleNum, Equal, 1), (ColNum, Equal, 2)]), 2);
-        assert_eq!(for_clause(&[(RoleNum, Equal, 1), (ColNum, Equal, 3)]), 0);
+        let in_one_role = |size| for_clause(&[(RoleNum, Equal, 1), (ColNum, Equal, size)]);
+        assert_eq!([1, 2, 3, 4, 5].map(in_one_role), [1, 2, 3, 4, 0]);
+    }
+
+    /// By holding alone there are two clerks, and the buyer weighs 2.
+    #[test]
+    fn a_smallest_group_may_exist_through_acting_alone() {
+        let mut shop = small_shop();
+        let by = |shop: &Base, reading| length(smallest_group(&question(shop, reading)));
+        shop.group_clauses = vec![group_clause(&[
+            Compare(RoleNum, Equal, 1),
+            Compare(ColNum, Equal, 3),
+        ])];
+        assert_eq!(smallest_of(&shop), 3);
+        assert_eq!(by(&shop, Reading::HeldAlone), 0);
+        shop.group_clauses = vec![group_clause(&[Compare(TotalWeight, Equal, 4)])];
+        assert_eq!(smallest_of(&shop), 2);
+        assert_eq!(by(&shop, Reading::HeldAlone), 3);
     }
 
     #[test]

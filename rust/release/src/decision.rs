@@ -43,7 +43,8 @@ pub(crate) fn first_entries(bytes: &[u8], count: usize) -> impl Iterator<Item = 
 
 /// Whether the group may release the permission: `Ok` if it is granted, else
 /// the first of refusals 1 to 17 that applies. The order of the entries
-/// doesn't matter.
+/// doesn't matter. A user may act in a role that the user holds, or that is
+/// junior to one that the user holds; the role acted in counts.
 ///
 /// ```
 /// use release::example::SMALL_SHOP;
@@ -56,6 +57,13 @@ pub(crate) fn first_entries(bytes: &[u8], count: usize) -> impl Iterator<Item = 
 /// let early = Context::new(480, 0, 0);
 /// let refused = decide(&SMALL_SHOP, 0, early, &manager_and_clerk);
 /// assert_eq!(refused, Err(Refusal::NoWeight));
+///
+/// let manager_and_buyer_as_clerk = [Entry::new(0, 0), Entry::new(1, 2)];
+/// assert_eq!(decide(&SMALL_SHOP, 0, by_day, &manager_and_buyer_as_clerk), Ok(()));
+///
+/// let clerk_as_buyer = [Entry::new(0, 0), Entry::new(2, 1)];
+/// let refused = decide(&SMALL_SHOP, 0, by_day, &clerk_as_buyer);
+/// assert_eq!(refused, Err(Refusal::Membership));
 /// ```
 pub fn decide(
     base: &[u8],
@@ -98,6 +106,20 @@ mod tests {
     fn answer(entries: usize) -> Result<(), Refusal> {
         let group = vec![Entry::new(9, 9); entries];
         decide(&SMALL_SHOP, 0, Context::new(600, 0, 0), &group)
+    }
+
+    /// By day the roles weigh 5, 2 and 1: the manager as buyer, the buyer and a
+    /// clerk have 5.
+    #[test]
+    fn a_manager_acts_as_a_buyer() {
+        let decided = |group: &[[u8; 2]]| {
+            let by_day = Context::new(600, 0, 0);
+            decide_bytes(&SMALL_SHOP, 0, by_day, &group.concat())
+        };
+        assert_eq!(decided(&[[0, 1], [1, 1], [2, 2]]), Ok(()));
+        assert_eq!(decided(&[[0, 1], [1, 1]]), Err(Refusal::Condition));
+        let as_manager = decided(&[[0, 1], [1, 0], [2, 2]]);
+        assert_eq!(as_manager, Err(Refusal::Membership));
     }
 
     #[test]

@@ -1,9 +1,11 @@
 //! The release decider for shelf labels: a safe wrapper over the proved
 //! library.
 //!
-//! A policy base says who may act in which role, what each role weighs for a
-//! permission, and which groups may release it. The library answers these
-//! questions about a base, for any bytes whatever:
+//! A policy base says who holds which role, which role is senior to which, what
+//! each role weighs for a permission, and which groups may release it. A user
+//! may act in a role that the user holds, or that is junior to one that the user
+//! holds. The library answers these questions about a base, for any bytes
+//! whatever:
 //!
 //! | function | question |
 //! |---|---|

@@ -41,7 +41,8 @@ pub enum Refusal {
     /// 14: a user stands in two entries; of a signing, its user is on the
     /// sheet.
     UserTwice = 14,
-    /// 15: an entry's user doesn't hold its role.
+    /// 15: an entry's user may not act in its role: the user holds neither it
+    /// nor a role senior to it.
     Membership = 15,
     /// 16: an entry's role has weight 0 for the permission.
     NoWeight = 16,
@@ -139,7 +140,10 @@ impl Refusal {
             Refusal::UserTwice => {
                 "a user stands in two entries, or a new entry's user is on the sheet"
             }
-            Refusal::Membership => "an entry's user doesn't hold its role",
+            Refusal::Membership => {
+                "an entry's user may not act in its role: the user holds neither it nor \
+                 a role senior to it"
+            }
             Refusal::NoWeight => "an entry's role has weight 0 for the permission",
             Refusal::Condition => "the permission's condition doesn't hold",
             Refusal::ConflictBuffer => "the buffer is shorter than 3 times the number of conflicts",

@@ -73,7 +73,9 @@ impl Sheet {
     /// assert_eq!(again, Err(Refusal::UserTwice));
     /// let clerk_as_buyer = sheet.sign(&SMALL_SHOP, Entry::new(2, 1));
     /// assert_eq!(clerk_as_buyer, Err(Refusal::Membership));
-    /// assert!(sheet.entries().eq([Entry::new(0, 0)]));
+    /// let buyer_as_clerk = sheet.sign(&SMALL_SHOP, Entry::new(1, 2));
+    /// assert_eq!(buyer_as_clerk, Ok(()));
+    /// assert!(sheet.entries().eq([Entry::new(0, 0), Entry::new(1, 2)]));
     /// # Ok::<(), Refusal>(())
     /// ```
     pub fn sign(&mut self, base: &[u8], entry: Entry) -> Result<(), Refusal> {
@@ -243,8 +245,8 @@ mod tests {
             (4, 2, Err(Refusal::NoUserOrRole)),
             (1, 3, Err(Refusal::NoUserOrRole)),
             (3, 1, Err(Refusal::UserTwice)),
-            (1, 2, Err(Refusal::Membership)),
-            (0, 0, Ok(())),
+            (1, 0, Err(Refusal::Membership)),
+            (0, 1, Ok(())),
             (0, 0, Err(Refusal::UserTwice)),
             (1, 1, Ok(())),
         ];
@@ -254,12 +256,31 @@ mod tests {
             assert_eq!(sheet == before, answer.is_err());
             expect_decision(&SMALL_SHOP, &sheet);
         }
-        let bytes = [0, 3, 3, 2, 0, 0, 1, 1, 0, 0, 0, 0, 0, 0];
+        let bytes = [0, 3, 3, 2, 0, 1, 1, 1, 0, 0, 0, 0, 0, 0];
         assert_eq!(sheet.to_bytes(), bytes);
         assert!(sheet
             .entries()
             .map(Entry::bytes)
-            .eq([[3, 2], [0, 0], [1, 1]]));
+            .eq([[3, 2], [0, 1], [1, 1]]));
+    }
+
+    /// The manager signs as buyer and as clerk, the buyer as clerk, and nobody
+    /// as somebody above.
+    #[test]
+    fn users_sign_in_their_roles_and_below() {
+        for user in 0..4 {
+            for role in 0..3 {
+                let mut sheet = Sheet::open(&SMALL_SHOP, 0).expect("it is opened");
+                let allowed = user.min(2) <= role;
+                let answer = if allowed {
+                    Ok(())
+                } else {
+                    Err(Refusal::Membership)
+                };
+                assert_eq!(sheet.sign(&SMALL_SHOP, Entry::new(user, role)), answer);
+                expect_decision(&SMALL_SHOP, &sheet);
+            }
+        }
     }
 
     #[test]
@@ -290,8 +311,9 @@ mod tests {
         let signings = [
             (8, 2, Refusal::NoUserOrRole),
             (7, 0, Refusal::UserTwice),
-            (1, 2, Refusal::Membership),
+            (1, 0, Refusal::Membership),
             (1, 1, Refusal::SheetFull),
+            (1, 2, Refusal::SheetFull),
         ];
         for (user, role, refusal) in signings {
             assert_eq!(sheet.sign(&base, Entry::new(user, role)), Err(refusal));

@@ -85,8 +85,8 @@ fn the_example_prints_a_morning() {
         minute 500: 0/0 signed, release refused 17\n\
         minute 530: 0/1 refused 14, release refused 17\n\
         minute 560: 2/1 refused 15, release refused 17\n\
-        minute 590: 2/2 signed, release granted\n\
-        permission 0: 0/0 2/2\n";
+        minute 590: 1/2 signed, release granted\n\
+        permission 0: 0/0 1/2\n";
     assert_eq!(printed(&example, &[]), expected);
 }
 

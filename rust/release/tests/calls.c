@@ -74,7 +74,8 @@ static void decisions(void) {
     const uint8_t two[] = {0, 0, 2, 2};
     const uint8_t unknown[] = {0, 0, 4, 2};
     const uint8_t twice[] = {0, 0, 0, 0};
-    const uint8_t not_held[] = {0, 0, 2, 1};
+    const uint8_t as_senior[] = {0, 0, 2, 1};
+    const uint8_t as_junior[] = {0, 1, 1, 1, 2, 2};
     expect("granted", RELEASE_DONE, decide(600, two, 4));
     expect("10", RELEASE_REFUSAL_NO_PERMISSION,
            release_decide(shop, SHOP, 256, 600, 0, 0, two, 4));
@@ -84,7 +85,8 @@ static void decisions(void) {
     expect("12", RELEASE_REFUSAL_GROUP_LENGTH, decide(600, two, 3));
     expect("13", RELEASE_REFUSAL_NO_USER_OR_ROLE, decide(600, unknown, 4));
     expect("14", RELEASE_REFUSAL_USER_TWICE, decide(600, twice, 4));
-    expect("15", RELEASE_REFUSAL_MEMBERSHIP, decide(600, not_held, 4));
+    expect("15", RELEASE_REFUSAL_MEMBERSHIP, decide(600, as_senior, 4));
+    expect("the manager as a buyer", RELEASE_DONE, decide(600, as_junior, 6));
     expect("16", RELEASE_REFUSAL_NO_WEIGHT, decide(480, two, 4));
     expect("17", RELEASE_REFUSAL_CONDITION, decide(600, two, RELEASE_ENTRY_BYTES));
     expect("the base's letters as a group", 13, decide(600, shop + SHOP - 4, 4));
@@ -173,6 +175,7 @@ static void openings(void) {
 static void signings(void) {
     const uint8_t signed_1[RELEASE_SHEET_BYTES] = {0, 1, 0, 0};
     const uint8_t signed_2[RELEASE_SHEET_BYTES] = {0, 2, 0, 0, 3, 2};
+    const uint8_t signed_3[RELEASE_SHEET_BYTES] = {0, 3, 0, 0, 3, 2, 1, 2};
     struct guarded guarded = unopened();
     expect("open", RELEASE_DONE, release_sheet_open(shop, SHOP, 0, guarded.sheet));
     expect("sign", RELEASE_DONE, release_sheet_sign(shop, SHOP, 0, 0, guarded.sheet));
@@ -190,6 +193,9 @@ static void signings(void) {
     expect_sheet("a refused signing writes nothing", signed_1, guarded);
     expect("sign", RELEASE_DONE, release_sheet_sign(shop, SHOP, 3, 2, guarded.sheet));
     expect_sheet("a sheet signed twice", signed_2, guarded);
+    expect("the buyer as a clerk", RELEASE_DONE,
+           release_sheet_sign(shop, SHOP, 1, 2, guarded.sheet));
+    expect_sheet("a sheet signed by three", signed_3, guarded);
 }
 
 /* Sheets that claim as many entries as there can be, and more, of users that
@@ -236,7 +242,7 @@ static void askings(void) {
     expect("12", RELEASE_REFUSAL_GROUP_LENGTH, ask(600, sheet));
     sheet[RELEASE_SHEET_PERMISSION] = 255;
     expect("10", RELEASE_REFUSAL_NO_PERMISSION, ask(1440, sheet));
-    expect("the base as a sheet: user 1 as role 2", 15, ask(600, shop));
+    expect("the base as a sheet: user 1 as role 2", 17, ask(600, shop));
 }
 
 static void nulls(void) {

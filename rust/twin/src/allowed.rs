@@ -139,7 +139,7 @@ fn steps(n: usize, r: usize) -> (Ups, Ups) {
 #[inline(never)]
 fn push(ends: &[u8; 8], up: &Ups, next: &mut [u8]) {
     for (&end, &up) in ends.iter().zip(up) {
-        // Roles that aren't there may lead beyond; nobody holds them.
+        // Roles that aren't there may lead beyond; nobody acts in them.
         if let Some(here) = next.get_mut(usize::from(up)) {
             if end < *here {
                 *here = end;

@@ -62,15 +62,16 @@ impl Counts {
 /// The counts of a report on a base that passes the check.
 pub fn counts(base: &[u8], at: Context) -> Counts {
     let base = Base::read(base).expect("the base passes");
+    let setting = setting(&base, at);
     let (mut sets, mut ends) = ([0; BYTES], [0; BYTES]);
     let mut ups = [[0; 8]; UPS];
     let mut counting = Counting {
         base: &base,
-        next_ends: next_ends(&base),
+        next_ends: next_ends(base.users, &setting.juniors),
         allowed: Allowed::new(base.roles.into(), &mut sets, &mut ends, &mut ups),
         counts: Counts::default(),
     };
-    let w = all_weights(&base, &setting(&base, at));
+    let w = all_weights(&base, &setting);
     for (permission, w) in w.iter().enumerate().take(base.permissions.len()) {
         counting.count(permission, w);
     }

@@ -1,9 +1,10 @@
 //! The decision on a group: refusals 12 to 17.
 
+use crate::acting::{acting_roles, holds_role};
 use crate::base::Base;
 use crate::conditions::holds;
 use crate::weights::{role_weights, Setting, Weights};
-use crate::{CODES, MOST};
+use crate::MOST;
 
 /// 0 where the group is granted, else the first of refusals 12 to 17 that
 /// applies.
@@ -18,7 +19,8 @@ pub fn group_refusal(base: &Base, permission: u8, setting: &Setting, group: &[u8
     if (1..entries.len()).any(|i| stands_before(entries, i)) {
         return 14;
     }
-    if entries.iter().any(|entry| !may_act(base, entry)) {
+    let may_act = |entry: &[u8; 2]| may_act(base, entry, || setting.juniors);
+    if !entries.iter().all(may_act) {
         return 15;
     }
     let w = role_weights(base, setting, permission);
@@ -45,9 +47,11 @@ fn stands_before(entries: &[[u8; 2]], i: usize) -> bool {
     before.iter().any(|entry| entry[0] == later[0][0])
 }
 
-pub fn may_act(base: &Base, &[user, role]: &[u8; 2]) -> bool {
+/// Whether the user holds the role, or one whose juniors it is among.
+pub fn may_act(base: &Base, &[user, role]: &[u8; 2], juniors: impl FnOnce() -> [u8; 8]) -> bool {
     let parameter = u32::from_le_bytes(base.users[usize::from(user)]);
-    parameter.is_multiple_of(CODES[usize::from(role & 7)])
+    let role = role & 7;
+    holds_role(parameter, role.into()) || acting_roles(parameter, &juniors()) >> role & 1 == 1
 }
 
 fn weight_of(w: Weights, entry: &[u8; 2]) -> u32 {

@@ -1,6 +1,7 @@
 //! The library's calls in plain Rust, tuned: the same tables, the same steps.
 //! For measuring what a call costs, and which bases cost most.
 
+mod acting;
 mod allowed;
 mod asked;
 mod back;
@@ -97,8 +98,9 @@ pub fn report(base: &[u8], at: Context, out: &mut [u8]) -> Answer {
 /// Writes the records; the number of permissions that have a group.
 #[inline(never)]
 fn fill(base: &Base, at: Context, records: &mut [[u8; RECORD]]) -> u32 {
-    let w = weights::all_weights(base, &weights::setting(base, at));
-    let next_ends = ends::next_ends(base);
+    let setting = weights::setting(base, at);
+    let w = weights::all_weights(base, &setting);
+    let next_ends = ends::next_ends(base.users, &setting.juniors);
     search::fill(base, &w, &next_ends, records)
 }
 

@@ -1,9 +1,9 @@
 //! The conflicts as rows of bits, a row for each kind and first.
 
+use crate::acting::holds_role;
 use crate::base::Base;
 use crate::related::{relations, slot, SLOTS};
 use crate::weights::juniors;
-use crate::CODES;
 
 /// 64 rows of kind 1, 64 of kind 2 and 24 of kind 3.
 pub const ROWS: usize = 152;
@@ -84,7 +84,7 @@ fn excluded_sets(exclusions: &[[u8; 3]]) -> [u32; 16] {
 
 /// Kind 3: exclusions whose roles the user both holds.
 fn holds_row(parameter: u32, exclusions: &[[u8; 3]]) -> u64 {
-    let held = |role: u8| parameter.is_multiple_of(CODES[usize::from(role & 7)]);
+    let held = |role: u8| holds_role(parameter, usize::from(role & 7));
     let both = |&[kind, a, b]: &[u8; 3]| kind == 0 && held(a) && held(b);
     let exclusions = exclusions.iter().enumerate();
     exclusions.fold(0, |row, (e, exclusion)| {

@@ -5,6 +5,7 @@ use model::{Context, Sheet};
 
 use crate::base::Base;
 use crate::groups::may_act;
+use crate::weights::juniors;
 use crate::{decide, MOST};
 
 /// Opens the sheet: unsigned, for the permission or, where one of refusals 1 to
@@ -55,7 +56,7 @@ fn new_entry(base: &[u8], user: u32, role: u32, held: &[[u8; 2]]) -> Result<[u8;
     if held.iter().any(|other| other[0] == entry[0]) {
         return Err(14);
     }
-    if !may_act(&base, &entry) {
+    if !may_act(&base, &entry, || juniors(base.hierarchy)) {
         return Err(15);
     }
     if held.len() == MOST {

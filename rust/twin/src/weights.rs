@@ -11,7 +11,7 @@ pub type Weights = [u8; 8];
 /// The context numbers that hold, as a set, and each role's juniors.
 pub struct Setting {
     contexts: u32,
-    juniors: [u8; 8],
+    pub juniors: [u8; 8],
 }
 
 pub fn setting(base: &Base, at: Context) -> Setting {
@@ -37,14 +37,19 @@ fn clause_holds(clause: &[u8; 16], values: [u32; 3]) -> bool {
     })
 }
 
-/// A senior's number is smaller, so the highest role comes first.
+/// First those that a record names; then theirs, from the highest role on: a
+/// senior's number is smaller.
 pub fn juniors(hierarchy: &[[u8; 2]]) -> [u8; 8] {
-    let mut known = [0; 8];
-    for senior in (0..8).rev() {
-        let edges = hierarchy.iter().filter(|edge| edge[0] == senior);
-        known[usize::from(senior)] = edges.fold(0, |set, edge| {
-            set | 1 << (edge[1] & 7) | known[usize::from(edge[1] & 7)]
-        });
+    let mut known = [0_u8; 8];
+    for &[senior, junior] in hierarchy {
+        known[usize::from(senior & 7)] |= 1 << (junior & 7);
+    }
+    for senior in (0..7).rev() {
+        let mut rest = known[senior];
+        while rest != 0 {
+            known[senior] |= known[rest.trailing_zeros() as usize & 7];
+            rest &= rest - 1;
+        }
     }
     known
 }

@@ -1,6 +1,7 @@
 //! Edges of the conflict list. Each answer and each byte is worked out from
 //! the rules, and the library and the model must both give it.
 
+mod acting;
 mod buffers;
 mod exclusive;
 mod greatest;

@@ -1,6 +1,7 @@
 //! Edges of the decision. Each answer is worked out from the rules, and the
 //! library and the model must both give it.
 
+mod acting;
 mod attributes;
 mod clauses;
 mod contexts;

@@ -1,8 +1,8 @@
-//! Refusals 14 and 15: a user in two entries, and a role not held.
+//! Refusals 14 and 15: a user in two entries, and a role not held where no role
+//! is senior.
 
 use crate::setups::*;
 use compare::builder::*;
-use compare::shop::small_shop;
 
 #[test]
 fn a_user_twice_in_the_same_role_is_refused() {
@@ -79,38 +79,6 @@ fn parameter_105_holds_three_roles() {
     base.users[0].parameter = 105;
     for (role, answer) in [(0, 0), (1, 0), (2, 0), (3, 15)] {
         expect(&base, &[[0, role]], answer);
-    }
-}
-
-/// Open to all, but with seniors: 0 over 1 over 2.
-fn ranked_base() -> BaseBuilder {
-    let mut base = open_base(3);
-    base.hierarchy = edges(&[(0, 1), (1, 2)]);
-    base.users = [3, 5, 7].map(|parameter| User { parameter }).to_vec();
-    base
-}
-
-#[test]
-fn a_senior_does_not_act_as_its_junior() {
-    expect(&ranked_base(), &[[0, 0]], 0);
-    expect(&ranked_base(), &[[0, 1]], 15);
-    expect(&ranked_base(), &[[0, 2]], 15);
-    expect(&ranked_base(), &[[1, 2]], 15);
-}
-
-#[test]
-fn a_junior_does_not_act_as_its_senior() {
-    expect(&ranked_base(), &[[2, 2]], 0);
-    expect(&ranked_base(), &[[2, 1]], 15);
-    expect(&ranked_base(), &[[2, 0]], 15);
-    expect(&ranked_base(), &[[1, 0]], 15);
-}
-
-#[test]
-fn the_small_shops_manager_does_not_act_as_buyer_or_clerk() {
-    for role in [1, 2] {
-        expect(&small_shop(), &[[0, role]], 15);
-        expect(&small_shop(), &[CLERK, [0, role]], 15);
     }
 }
 

@@ -27,7 +27,7 @@ fn expect_early(entries: &[[u8; 2]], answer: u8) {
 
 const ABSENT_USER: [u8; 2] = [4, 2];
 const ABSENT_ROLE: [u8; 2] = [1, 3];
-const NOT_HELD: [u8; 2] = [1, 0];
+const AS_SENIOR: [u8; 2] = [1, 0];
 const NO_WEIGHT: [u8; 2] = [2, 2];
 
 /// With a permission that isn't there, a context out of range and no group.
@@ -118,23 +118,27 @@ fn refusal_13_beats_14() {
 
 #[test]
 fn refusal_14_beats_15() {
-    expect_early(&[MANAGER, MANAGER, NOT_HELD], 14);
-    expect_early(&[NOT_HELD, NOT_HELD], 14);
-    expect_early(&[BUYER, NOT_HELD], 14);
-    expect_early(&[MANAGER, NOT_HELD], 15);
+    expect_early(&[MANAGER, MANAGER, AS_SENIOR], 14);
+    expect_early(&[AS_SENIOR, AS_SENIOR], 14);
+    expect_early(&[BUYER, AS_SENIOR], 14);
+    expect_early(&[MANAGER, AS_SENIOR], 15);
 }
 
 #[test]
 fn refusal_15_beats_16() {
-    expect_early(&[NOT_HELD, NO_WEIGHT], 15);
+    expect_early(&[AS_SENIOR, NO_WEIGHT], 15);
     expect_early(&[NO_WEIGHT], 16);
     expect_early(&[MANAGER, NO_WEIGHT], 16);
 }
 
-/// The buyer as clerk: not held, and early without weight.
+/// A user without roles as clerk, who has no weight early.
 #[test]
 fn refusal_15_beats_16_in_one_entry() {
-    expect_early(&[[1, 2]], 15);
+    let mut shop = small_shop();
+    shop.users[3].parameter = 1;
+    expect_at(480, &shop, &[OTHER_CLERK], 15);
+    expect_at(480, &shop, &[CLERK], 16);
+    expect_at(480, &shop, &[CLERK, OTHER_CLERK], 15);
 }
 
 /// One entry doesn't meet the condition, which asks for two.
@@ -156,7 +160,7 @@ fn refusal_16_beats_17_without_a_clause() {
 
 #[test]
 fn with_all_faults_the_first_is_named_and_then_the_next() {
-    let group = [MANAGER, NO_WEIGHT, NOT_HELD, MANAGER, ABSENT_USER].concat();
+    let group = [MANAGER, NO_WEIGHT, AS_SENIOR, MANAGER, ABSENT_USER].concat();
     let odd = [&group[..], &[0]].concat();
     expect_shop(1, 1440, &odd, 10);
     expect_shop(0, 1440, &odd, 11);
@@ -201,7 +205,7 @@ fn an_absent_role_is_found_at_every_place() {
 }
 
 #[test]
-fn a_role_not_held_is_found_at_every_place() {
+fn a_role_not_to_act_in_is_found_at_every_place() {
     expect_everywhere([6, 2], 1, 15);
 }
 

@@ -2,6 +2,7 @@
 //! twin and model must give it; the groups that library and twin show must be
 //! granted by library and model.
 
+mod acting;
 mod buffers;
 mod caps;
 mod clauses;

@@ -1,5 +1,5 @@
-//! The paper's example. By day its users weigh 5, 2, 1 and 1, early they weigh
-//! 4, 1, 0 and 0.
+//! The paper's example. By day its roles weigh 5, 2 and 1, early they weigh 4, 1
+//! and 0.
 
 use crate::setups::*;
 use compare::builder::GroupClause;

@@ -5,8 +5,8 @@ use crate::setups::*;
 use compare::builder::*;
 use compare::shop::small_shop;
 
-/// Expects this number for the small shop with one clause, by day: the users
-/// weigh 5, 2, 1 and 1.
+/// Expects this number for the small shop with one clause, by day: the manager
+/// weighs 5, as buyer 2 and as clerk 1, the buyer 2 and as clerk 1, the clerks 1.
 fn shop(conditions: &[GroupCondition], k: u8) {
     let mut base = small_shop();
     base.group_clauses = vec![GroupClause::new(0, conditions)];
@@ -16,7 +16,7 @@ fn shop(conditions: &[GroupCondition], k: u8) {
 #[test]
 fn a_sum_that_is_named() {
     let sums = [1, 2, 3, 4, 5, 6, 7, 8, 9, 10];
-    let numbers = [1, 1, 2, 3, 1, 2, 2, 3, 4, 0];
+    let numbers = [1, 1, 2, 2, 1, 2, 2, 3, 4, 0];
     for (sum, k) in sums.into_iter().zip(numbers) {
         shop(&[(1, 4, sum)], k);
     }
@@ -29,23 +29,29 @@ fn a_sum_that_is_capped() {
     shop(&[(1, 1, 2)], 1);
     shop(&[(0, 2, 2), (1, 1, 3)], 2);
     shop(&[(0, 2, 2), (1, 1, 2)], 0);
-    shop(&[(0, 2, 3), (1, 1, 5)], 3);
-    shop(&[(0, 2, 3), (1, 1, 4)], 0);
-    shop(&[(0, 2, 3), (1, 3, 4)], 3);
-    shop(&[(0, 2, 3), (1, 3, 3)], 0);
+    shop(&[(0, 2, 3), (1, 1, 4)], 3);
+    shop(&[(0, 2, 3), (1, 1, 3)], 0);
+    shop(&[(0, 2, 3), (1, 3, 3)], 3);
+    shop(&[(0, 2, 3), (1, 3, 2)], 0);
+    shop(&[(0, 2, 4), (1, 3, 4)], 4);
+    shop(&[(0, 2, 4), (1, 3, 3)], 0);
 }
 
+/// All four have the sum 4, 5, 6, 8 or 9.
 #[test]
 fn a_sum_that_is_ruled_out() {
     shop(&[(1, 5, 5), (1, 2, 5)], 2);
-    shop(&[(1, 5, 9), (0, 2, 4)], 0);
+    shop(&[(0, 2, 4), (1, 2, 6), (1, 5, 8), (1, 5, 9)], 4);
+    shop(&[(0, 2, 4), (1, 0, 6), (1, 5, 8), (1, 5, 9)], 0);
+    shop(&[(0, 2, 4), (1, 4, 7)], 0);
     shop(&[(1, 5, 1), (1, 5, 2), (1, 5, 5)], 2);
 }
 
 #[test]
 fn a_sum_between_two() {
     shop(&[(1, 0, 2), (1, 1, 5)], 2);
-    shop(&[(1, 0, 3), (1, 1, 5)], 3);
+    shop(&[(1, 0, 3), (1, 1, 5)], 2);
+    shop(&[(1, 0, 7), (1, 1, 9)], 3);
     shop(&[(1, 0, 9), (1, 1, 20)], 0);
 }
 
@@ -133,10 +139,13 @@ fn sums_reach_240() {
     expect_numbers(&chain(6, &[(1, 0, 240)]), &[0]);
 }
 
-/// 235 is five times 40 and 35; 195 is 40, 40, 40, 40 and 35; 30 six times 5.
+/// 235 is five times 40 and 35; 195 is 40, 40, 40, 40 and 35; 30 is role 2's
+/// weight, and six times 5.
 #[test]
 fn high_sums_that_are_named() {
-    for (sum, k) in [(235, 6), (195, 5), (165, 5), (30, 6), (45, 2), (44, 0)] {
+    for (sum, k) in [(235, 6), (195, 5), (165, 5), (30, 1), (45, 2), (44, 0)] {
         expect_numbers(&chain(7, &[(1, 4, sum)]), &[k]);
     }
+    expect_numbers(&chain(7, &[(1, 4, 30), (0, 4, 6)]), &[6]);
+    expect_numbers(&chain(7, &[(1, 4, 25), (0, 4, 6)]), &[0]);
 }

@@ -13,10 +13,11 @@ fn a_role_without_weight_is_not_acted_in() {
     expect_only_group(&base_of(&[0, 1], two, &[ANY]), &[[1, 1]]);
 }
 
-/// The set holds the role acted in, not the senior's juniors.
+/// The set holds the role acted in, not the senior's juniors; and nobody acts in
+/// role 1, which has no weight.
 #[test]
 fn a_senior_is_not_its_junior_in_the_set() {
-    let mut base = base_of(&[1, 1], users(&[&[0], &[0]]), &[&[(3, 6, 0b10)]]);
+    let mut base = base_of(&[1, 0], users(&[&[0], &[0]]), &[&[(3, 6, 0b10)]]);
     base.hierarchy = vec![Edge {
         senior: 0,
         junior: 1,
@@ -24,10 +25,11 @@ fn a_senior_is_not_its_junior_in_the_set() {
     expect_numbers(&base, &[0]);
 }
 
-/// The senior has no policy, but its junior's weight.
+/// The senior has no policy, but its junior's weight. Both act as seniors.
 #[test]
 fn a_role_acts_with_inherited_weight() {
-    let mut base = base_of(&[0, 4], users(&[&[0], &[0]]), &[&[(1, 2, 8)]]);
+    let seniors: &[GroupCondition] = &[(1, 2, 8), (3, 6, 0b01), (2, 4, 1)];
+    let mut base = base_of(&[0, 4], users(&[&[0], &[0]]), &[seniors]);
     base.hierarchy = vec![Edge {
         senior: 0,
         junior: 1,
@@ -37,16 +39,21 @@ fn a_role_acts_with_inherited_weight() {
     expect_only_group(&base, &[[0, 0], [1, 0]]);
 }
 
-/// Two chains lead from role 0 to role 3, which counts once: a user of role 0
-/// weighs 3.
+/// Two chains lead from role 0 to role 3, which counts once: role 0 weighs 3,
+/// and the others 2.
 #[test]
 fn a_junior_counts_once() {
     let mut base = base_of(&[1, 0, 0, 2], users(&[&[0], &[0], &[0]]), &[]);
     let edge = |senior, junior| Edge { senior, junior };
     base.hierarchy = vec![edge(0, 1), edge(0, 2), edge(1, 3), edge(2, 3)];
     base.policies[1].inheritable = 1;
-    for (sum, k) in [(3, 1), (4, 0), (5, 0), (6, 2), (9, 3)] {
+    for (sum, k) in [(3, 1), (4, 2), (5, 2), (6, 2), (7, 3), (8, 3), (9, 3)] {
         base.group_clauses = vec![GroupClause::new(0, &[(1, 4, sum)])];
+        expect_numbers(&base, &[k]);
+    }
+    for (sum, k) in [(3, 1), (4, 0), (5, 0), (6, 2), (9, 3)] {
+        let seniors = [(1, 4, sum), (3, 6, 0b0001), (2, 4, 1)];
+        base.group_clauses = vec![GroupClause::new(0, &seniors)];
         expect_numbers(&base, &[k]);
     }
 }

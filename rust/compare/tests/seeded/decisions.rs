@@ -1,14 +1,22 @@
 //! The decision, on groups sound, damaged and of any bytes.
 
+use compare::acting::most_records_down;
 use compare::agreed_decision;
 use compare::cases::*;
 use compare::questions::Asked;
+use model::Base;
 
 use crate::seen::{Call, Seen};
 
 pub fn compare(seen: &mut Seen) {
     let mut compare = |base: &[u8], asked: &Asked| {
-        seen.answer(Call::Decide, agreed_decision(base, asked));
+        let answer = agreed_decision(base, asked);
+        seen.answer(Call::Decide, answer);
+        if answer == 0 {
+            let base = Base::read(base).expect("a refused base grants nothing");
+            let records = most_records_down(&base, &asked.group);
+            seen.granted(records.expect("whoever is granted may act"));
+        }
     };
     sound_bases(16_000, &mut compare);
     full_bases(32, 2_000, &mut compare);

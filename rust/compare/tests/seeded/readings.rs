@@ -83,10 +83,17 @@ fn shows(reading: Reading) -> &'static [&'static str] {
         | Reading::MixedGroupClauses => &["decisions", "reports", "askings"],
         Reading::HeaviestUsers => &["reports"],
         Reading::MixedContextClauses => &["decisions", "reports", "lists", "askings"],
-        Reading::WeightAndType | Reading::RelatedToItself | Reading::SeniorsCovered => &["lists"],
+        Reading::WeightAndType
+        | Reading::RelatedToItself
+        | Reading::SeniorsCovered
+        | Reading::ActedInAsHeld => &["lists"],
         Reading::PermissionKept => &["openings"],
         Reading::PermissionAtSigning | Reading::FullFirst | Reading::AnotherRole => &["signings"],
         Reading::OverSixAsNone => &["signings", "askings"],
+        Reading::HeldAlone | Reading::DirectJuniors | Reading::SeniorsToo => {
+            &["decisions", "reports", "signings", "askings"]
+        }
+        Reading::SeniorInSet | Reading::SeniorsWeight => &["decisions", "reports", "askings"],
     }
 }
 
@@ -116,4 +123,5 @@ fn every_wrong_reading_is_noticed() {
     Reading::WRONG.into_iter().for_each(expect);
     Reading::WRONG_IN_LISTS.into_iter().for_each(expect);
     Reading::WRONG_ON_SHEETS.into_iter().for_each(expect);
+    Reading::WRONG_OF_ACTING.into_iter().for_each(expect);
 }

@@ -1,6 +1,7 @@
 //! The report, in contexts in and out of range, with buffers that are too
 //! short, just long enough and longer.
 
+use compare::acting::{gains, most_records_down};
 use compare::builder::BaseBuilder;
 use compare::capped::capped_base;
 use compare::damage::*;
@@ -12,7 +13,7 @@ use compare::shown::{numbers, RECORD};
 use compare::sparse::sparse_base;
 use compare::valid::{random_base, Size};
 use compare::{agreed_report, permission_count};
-use model::Context;
+use model::{Base, Context};
 use twin::worst;
 
 use crate::seen::{Call, Seen};
@@ -62,7 +63,20 @@ fn compare_at(seen: &mut Seen, random: &mut Random, base: &[u8], at: Context, le
     seen.answer(Call::Report, answer.refusal);
     if answer.refusal == 0 {
         let records = &lent.buffer()[..RECORD * permission_count(base)];
-        seen.numbers(&numbers(records));
+        let numbers = numbers(records);
+        seen.numbers(&numbers);
+        seen.gains(&gains(base, at, &numbers));
+        note_shown(seen, base, records);
+    }
+}
+
+/// Notes how far below their roles the users of the groups shown act.
+fn note_shown(seen: &mut Seen, base: &[u8], records: &[u8]) {
+    let base = Base::read(base).expect("a refused base has no report");
+    for record in records.chunks_exact(RECORD).filter(|record| record[0] > 0) {
+        let group = &record[1..=2 * usize::from(record[0])];
+        let records = most_records_down(&base, group);
+        seen.shown(records.expect("whoever is shown may act"));
     }
 }
 

@@ -1,9 +1,10 @@
 //! How often each answer, number of approvers, kind of conflict and number of
-//! signatures was seen.
+//! signatures was seen, and how far below their roles users acted.
 
 use std::io::Write;
 use std::time::Duration;
 
+use compare::acting::Gain;
 use compare::tally::Tally;
 
 /// The library's calls.
@@ -48,6 +49,15 @@ const ANSWERS_TO_MADE: &[u8] = &[0, 1, 2, 3, 4, 5, 6, 7, 8, 9, 10, 11, 12, 13, 1
 const NUMBERS: &[u8] = &[0, 1, 2, 3, 4, 5, 6];
 const KINDS: &[u8] = &[1, 2, 3];
 
+/// A chain of H records from a role held has at most so many, and 0 is none.
+const RECORDS: &[u8] = &[0, 1, 2, 3, 4, 5, 6, 7];
+
+const GAINS: [(Gain, &str); 3] = [
+    (Gain::Nothing, "the same k by holding alone"),
+    (Gain::Fewer, "fewer by acting below a role held"),
+    (Gain::Group, "a group only by acting below a role held"),
+];
+
 /// The fewest cases of each call: 500,000 and more in all.
 const FEWEST: [usize; CALLS] = [100_000, 150_000, 20_000, 40_000, 20_000, 100_000, 100_000];
 
@@ -59,6 +69,11 @@ pub struct Seen {
     most_conflicts: u32,
     answers_to_made: Tally<18>,
     signatures: Tally<7>,
+    granted: Tally<8>,
+    signed: Tally<8>,
+    asked: Tally<8>,
+    shown: Tally<8>,
+    gains: Tally<3>,
 }
 
 impl Seen {
@@ -85,6 +100,42 @@ impl Seen {
         self.signatures.add(signatures as u8);
     }
 
+    /// Notes how many H records a granted group's users need at most to reach
+    /// their roles from those held.
+    pub fn granted(&mut self, records: u8) {
+        self.granted.add(records);
+    }
+
+    /// Notes how many the user of an accepted signing needs.
+    pub fn signed(&mut self, records: u8) {
+        self.signed.add(records);
+    }
+
+    /// Notes how many the users of a sheet that calls made and that is granted
+    /// need at most.
+    pub fn asked(&mut self, records: u8) {
+        self.asked.add(records);
+    }
+
+    /// Notes how many those of a group shown in a report need at most.
+    pub fn shown(&mut self, records: u8) {
+        self.shown.add(records);
+    }
+
+    /// Notes what acting in roles not held brings to the numbers of a report.
+    pub fn gains(&mut self, gains: &[Gain]) {
+        gains.iter().for_each(|gain| self.gains.add(*gain as u8));
+    }
+
+    /// How many H records users needed where that depends on no choice of group.
+    fn acting(&self) -> [(&str, &Tally<8>); 3] {
+        [
+            ("granted, H records:", &self.granted),
+            ("signed, H records:", &self.signed),
+            ("sheet granted, H records:", &self.asked),
+        ]
+    }
+
     fn cases(&self) -> usize {
         self.answers.iter().map(Tally::total).sum()
     }
@@ -99,8 +150,18 @@ impl Seen {
         let totals = row("in all", self.answers.each_ref().map(Tally::total));
         let numbers = NUMBERS.iter().map(|k| counted("k =", &self.numbers, *k));
         let kinds = KINDS.iter().map(|kind| counted("kind", &self.kinds, *kind));
-        let signed = NUMBERS.iter();
-        let signed = signed.map(|number| counted("signatures:", &self.signatures, *number));
+        let signatures = NUMBERS.iter();
+        let signatures = signatures.map(|number| counted("signatures:", &self.signatures, *number));
+        let shown = ("shown, H records:", &self.shown);
+        let acting = self.acting().into_iter().chain([shown]);
+        let acting = acting.flat_map(|(name, tally)| {
+            let records = RECORDS.iter();
+            records.map(move |records| counted(name, tally, *records))
+        });
+        let gains = GAINS.iter().map(|(gain, name)| {
+            let seen = self.gains.seen(*gain as u8);
+            format!("{name}: {seen} times")
+        });
         let last = format!(
             "{} cases in {:.1} seconds, at most {} conflicts in one list",
             self.cases(),
@@ -112,7 +173,9 @@ impl Seen {
             .chain([totals])
             .chain(numbers)
             .chain(kinds)
-            .chain(signed)
+            .chain(signatures)
+            .chain(acting)
+            .chain(gains)
             .chain([last])
             .collect();
         let text = format!("\n{}\n", lines.join("\n"));
@@ -133,6 +196,13 @@ impl Seen {
         self.answers_to_made
             .expect_exactly("a sheet that calls made: answer", ANSWERS_TO_MADE);
         self.signatures.expect_exactly("signatures:", NUMBERS);
+        for (name, tally) in self.acting() {
+            tally.expect_exactly(name, RECORDS);
+        }
+        let far: usize = (2..8).map(|records| self.shown.seen(records)).sum();
+        assert!(far > 0, "no group shown needs two H records or more");
+        let gains = GAINS.map(|(gain, _)| gain as u8);
+        self.gains.expect_exactly("gain", &gains);
     }
 }
 

@@ -1,5 +1,6 @@
 //! Sheets: mornings that start with an opening, and sheets of any bytes.
 
+use compare::acting::{most_records_down, records_down};
 use compare::damage::random_bytes;
 use compare::lent::Lent;
 use compare::library_context;
@@ -80,13 +81,25 @@ fn compare_morning(seen: &mut Seen, random: &mut Random, morning: &Morning) {
         assert_eq!(*lent.sheet(), expected, "{call:?}");
         match call {
             SheetCall::Open { .. } => assert_eq!(answer == 0, permission != 255),
-            SheetCall::Sign { .. } => assert_eq!(answer == 0, accepted.len() > accepted_before),
+            SheetCall::Sign { .. } if answer == 0 => {
+                assert_eq!(accepted.len(), accepted_before + 1);
+                let last = accepted[accepted_before].bytes();
+                let base = base.expect("a refused base takes no signature");
+                let records = records_down(base, last);
+                seen.signed(records.expect("whoever signs may act"));
+            }
+            SheetCall::Sign { .. } => assert_eq!(accepted.len(), accepted_before),
             SheetCall::Ask { at } => {
                 let group: Vec<u8> = accepted.iter().copied().flat_map(Entry::bytes).collect();
                 let at = library_context(at);
                 let decided = release::answers::decide(bytes, permission.into(), at, &group);
                 assert_eq!(u32::from(answer), decided, "{expected:?}");
                 seen.made(answer, accepted.len());
+                if answer == 0 {
+                    let base = base.expect("a refused base grants nothing");
+                    let records = most_records_down(base, &group);
+                    seen.asked(records.expect("whoever is granted may act"));
+                }
             }
         }
     }

@@ -140,13 +140,14 @@ fn a_role_on_the_sheet_is_no_user() {
     expect_signed(&base, 1, 1, before, sheet(0, &[[5, 1], [1, 1]]));
 }
 
+/// The manager is over the buyer, the buyer over the clerks.
 #[test]
-fn a_role_not_held_gets_15() {
+fn a_role_neither_held_nor_below_one_held_gets_15() {
     let shop = small_shop().bytes();
-    for (user, role) in [(0, 1), (0, 2), (1, 0), (1, 2), (2, 0), (3, 1)] {
+    for (user, role) in [(1, 0), (2, 0), (2, 1), (3, 0), (3, 1)] {
         expect_refused(&shop, user, role, sheet(0, &[]), 15);
     }
-    for (user, role) in [(0, 0), (1, 1), (2, 2), (3, 2)] {
+    for (user, role) in [(0, 0), (0, 1), (0, 2), (1, 1), (1, 2), (2, 2), (3, 2)] {
         let after = sheet(0, &[[user, role]]);
         expect_signed(&shop, user.into(), role.into(), sheet(0, &[]), after);
     }
@@ -161,7 +162,7 @@ fn a_user_without_roles_never_signs() {
     }
 }
 
-/// Of eight roles each user holds one.
+/// Of eight roles, none of them senior, each user holds one.
 #[test]
 fn a_code_is_held_in_its_own_role_alone() {
     let mut base = BaseBuilder::new(8);
