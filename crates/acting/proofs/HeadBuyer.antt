@@ -2,11 +2,11 @@
 use Prim.Native.Nat.{ℕ, zero, suc, _<_}
 use mathlib.Core.Bool.{true, false}
 use mathlib.Core.Path.{_≡_, refl}
-use mathlib.Core.Logic.{⊎-elim}
 use mathlib.Core.List.{List, [], _∷_}
 use native.Mathlib.Omega.{arith}
 use borrow.Author.Tests.{eqb-true, eq-eqb}
-use Rattle.folds.proofs.Bools.{met-or-not, clash}
+use lib.Dec.{eqb}
+use Rattle.folds.proofs.Bools.{never-met, clash}
 use Rattle.reader.specs.Bytes.{word16, word32}
 use Rattle.reader.specs.Tables.{clauses, tableOf, tableOffset, tableCount, tableStart, roleCount, userCount}
 use Rattle.reader.specs.Tables.{lengthBad, lettersBad, rolesBad, reservedBad, tablesBad, trailerBad, frameRefusal}
@@ -76,7 +76,7 @@ zero-held : (at : Context) → smallestByHolding headBuyer at 0 ≡ 0
 unfolding smallestByHolding
 zero-held at =
     smallest-zero _ (of-held headBuyer at 0) .1
-    (λ g. ⊎-elim (λ h. absurd (none-held at g (eqb-true _ _ h))) (λ h. h) (met-or-not _))
+    (λ g. never-met (eqb (decisionByHolding headBuyer at 0 g) 0) (λ h. none-held at g (eqb-true _ _ h)))
 
 one-acting : (at : Context) → outOfRange at ≡ false → smallestOf headBuyer at 0 ≡ 1
 unfolding smallestOf

@@ -28,13 +28,15 @@ module _ (b : List ℕ) (at : Context) (p : ℕ) where
   unfolding decisionOf groupDecision
   held-granted g h =
       let (ok, there, in-range, left) = head-passed b at p _ h in
-      rw (ok, lt-ltb _ _ there, in-range) (wider-granted _ _ _ _ _ (permissionHolds (tableOf b clauses) p) g (held-acting b) left)
+      let condition = permissionHolds (tableOf b clauses) p in
+      rw (ok, lt-ltb _ _ there, in-range) (wider-granted _ _ _ _ _ condition g (held-acting b) left)
 
   held-too : (g : List ℕ) → eqb (decisionByHolding b at p g) 0 ≡ true → eqb (decisionOf b at p g) 0 ≡ true
   held-too g h = eq-eqb _ _ (held-granted g (eqb-true _ _ h))
 
   -- so a smallest number above 0 stays above 0 and doesn't rise
-  pub held-smallest : 0 < smallestByHolding b at p → (0 < smallestOf b at p) × (smallestOf b at p ≤ smallestByHolding b at p)
+  pub held-smallest : 0 < smallestByHolding b at p →
+      (0 < smallestOf b at p) × (smallestOf b at p ≤ smallestByHolding b at p)
   unfolding smallestByHolding smallestOf
   held-smallest = smallest-wider _ _ (of-decision b at p) held-too
 

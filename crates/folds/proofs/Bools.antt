@@ -54,6 +54,11 @@ pub met-or-not : (a : Bool) → (a ≡ true) ⊎ (a ≡ false)
 met-or-not true = inl refl
 met-or-not false = inr refl
 
+-- a test that can't be met fails
+pub never-met : (a : Bool) → (a ≡ true → ⊥) → a ≡ false
+never-met true h = absurd (h refl)
+never-met false h = refl
+
 pub clash : {A : Type 0} (a : Bool) → a ≡ true → a ≡ false → A
 clash true h k = absurd (false≢true (sym k))
 clash false h k = absurd (false≢true h)

@@ -12,7 +12,7 @@ use lib.Dec.{ltb, eqb}
 use lib.ListN.{length, getD, drop, drop-of-length-le}
 use lib.Seq.{drop-cons}
 use Rattle.folds.specs.Below.{anyBelow, firstBelow}
-use Rattle.folds.proofs.Bools.{met-or-not, clash}
+use Rattle.folds.proofs.Bools.{met-or-not, never-met, clash}
 use Rattle.folds.proofs.Tests.{any-found, any-some, first-least, first-lt, first-at}
 use Rattle.reader.proofs.Frame.{roles-range, users-le}
 use Rattle.reader.proofs.Accepted.{accepted-frame}
@@ -124,7 +124,7 @@ smallest-least granted d t h =
 none-granted : (granted : List ℕ → Bool) (k : ℕ) → ((t : List ℕ) → granted t ≡ true → (0 < k) × (2 * k ≤ length t)) →
     k ≡ 0 → (t : List ℕ) → granted t ≡ false
 none-granted granted k least z t =
-    ⊎-elim (λ h. let l = least t h .0 in absurd (omega arith)) (λ h. h) (met-or-not (granted t))
+    never-met (granted t) (λ h. let l = least t h .0 in omega arith)
 
 -- the smallest number is 0 exactly where no list whatever is granted
 pub smallest-zero : (granted : List ℕ → Bool) → OfBytes granted →

@@ -12,7 +12,7 @@ use lib.Dec.{ltb, eqb}
 use lib.ListN.{getD}
 use Rattle.folds.specs.Below.{anyBelow}
 use Rattle.folds.specs.Sets.{inSet, setBelow}
-use Rattle.folds.proofs.Bools.{and-left, and-right, and-both, or-either, met-or-not, same-test}
+use Rattle.folds.proofs.Bools.{and-left, and-right, and-both, or-either, met-or-not, never-met, same-test}
 use Rattle.folds.proofs.Tests.{any-found, any-some}
 use Rattle.folds.proofs.Sets.{in-below, same-members}
 use Rattle.reader.specs.Tables.{hierarchy, users, roleCount, userCount, tableOf, recordCount}
@@ -176,10 +176,8 @@ module _ (b : List ℕ) (ok : refusalOf b ≡ 0) where
 
   -- nobody may act in a role past the last
   pub acting-past : (u r : ℕ) → 8 ≤ r → mayAct b u r ≡ false
-  acting-past u r past = ⊎-elim
-      (λ h. let k = acting-known b u r h .1 in let few = few-roles in absurd (omega arith))
-      (λ h. h)
-      (met-or-not (mayAct b u r))
+  acting-past u r past =
+      never-met (mayAct b u r) (λ h. let k = acting-known b u r h .1 in let few = few-roles in omega arith)
 
   -- what is in the set of the roles in which the user may act
   pub acting-in : (u r : ℕ) → inSet (setBelow 8 (mayAct b u)) r ≡ mayAct b u r

@@ -10,7 +10,7 @@ use mathlib.Core.Logic.{⊎-elim}
 use borrow.Author.Tests.{ltb-true, ltb-false}
 use lib.Dec.{ltb}
 use Rattle.folds.specs.Sets.{setBelow}
-use Rattle.folds.proofs.Bools.{met-or-not}
+use Rattle.folds.proofs.Bools.{met-or-not, never-met}
 use Rattle.folds.proofs.Numbers.{sum-zero}
 use Rattle.reader.specs.Tables.{userCount, roleCount}
 use Rattle.reader.specs.Rules.{refusalOf}
@@ -30,10 +30,7 @@ unfolding setBelow
 idle b u past = sum-zero (λ r. cond (mayAct b u r) (2 ^ r) 0) 8 (λ r l. rw (none r))
   where
     none : (r : ℕ) → mayAct b u r ≡ false
-    none r = ⊎-elim
-        (λ h. let k = acting-known b u r h in absurd (omega (arith, k .0)))
-        (λ h. h)
-        (met-or-not (mayAct b u r))
+    none r = never-met (mayAct b u r) (λ h. omega (arith, acting-known b u r h .0))
 
 module _ {b sets : List ℕ} (acting : ActingSets b sets) (ok : refusalOf b ≡ 0) where
   few-users : {n : ℕ} → n ≡ userCount b → n ≤ 24
