@@ -1,4 +1,5 @@
--- Each group granted by holding alone is granted by acting, so a smallest number above 0 stays above 0 and doesn't rise.
+-- Each group granted by holding alone is granted by acting, so a smallest number above 0 stays above 0 and doesn't
+-- rise.
 use Prim.Native.Nat.{ℕ, _<_, _≤_}
 use mathlib.Core.Bool.{true}
 use mathlib.Core.Path.{_≡_, refl, sym, ap, _∙_}

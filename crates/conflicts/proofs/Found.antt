@@ -11,7 +11,7 @@ use lib.Bits.{bitAnd}
 use lib.Dec.{ltb, leb, eqb, lit<}
 use lib.ListN.{getD}
 use Rattle.folds.specs.Sets.{inSet}
-use Rattle.folds.proofs.Bools.{met-or-not}
+use Rattle.folds.proofs.Bools.{met-or-not, never-met}
 use Rattle.folds.proofs.Tests.{any-found, any-same, any-tail}
 use Rattle.folds.proofs.Sets.{meet-some}
 use Rattle.reader.specs.Tables.{hierarchy, contexts, policies, exclusions}
@@ -99,11 +99,10 @@ module _ (b : List ℕ) (ok : refusalOf b ≡ 0) where
     where
       none : seniorTo h r (policyRole a i) ≡ false
       none =
-          ⊎-elim
+          never-met (seniorTo h r (policyRole a i))
           (λ e. let d = senior-down (roleCount b) h small (accepted b ok .hierarchy) r (policyRole a i) e in
           let g = fine i l .role in
-          absurd (omega arith))
-          (λ e. e) (met-or-not (seniorTo h r (policyRole a i)))
+          omega arith)
 
   -- the sets of covered roles meet where some role is covered by both
   cover-rows : (covered : List ℕ) → Covers h a covered → (i j : ℕ) → i < n → j < n →

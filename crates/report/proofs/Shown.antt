@@ -2,7 +2,7 @@
 use Prim.Native.Nat.{ℕ, _+_, _-_, _*_, _<_, _≤_}
 use mathlib.Core.Bool.{Bool, true, false}
 use mathlib.Core.Path.{_≡_, ap, _∙_}
-use mathlib.Core.Logic.{_↔_, ⊎-elim}
+use mathlib.Core.Logic.{_↔_}
 use mathlib.Core.List.{List, [], _∷_, _++_}
 use native.Mathlib.Omega.{arith}
 use native.Mathlib.Nat.{zero-add}
@@ -10,7 +10,7 @@ use borrow.Author.Tests.{lt-ltb, ltb-true}
 use lib.Bits.{bitOr, or-zero-l}
 use lib.Dec.{ltb}
 use lib.ListN.{length, replicate}
-use Rattle.folds.proofs.Bools.{met-or-not, and-left, and-right, and-both}
+use Rattle.folds.proofs.Bools.{never-met, and-left, and-right, and-both}
 use Rattle.decision.specs.Groups.{entryUser}
 use Rattle.decision.specs.Conditions.{permissionHolds}
 use Rattle.decision.specs.Granting.{Granted}
@@ -83,10 +83,8 @@ module _ {U R : ℕ} {may : ℕ → ℕ → Bool} {weigh : ℕ → ℕ} {sets w 
   }
     where
       no : (t : List ℕ) → granted t ≡ false
-      no t = ⊎-elim
-          (λ h. let (g, _, _, few, m) = granted-meets t h in let l = a .sought .least g few m in absurd (omega arith))
-          (λ h. h)
-          (met-or-not (granted t))
+      no t = never-met (granted t)
+          (λ h. let (g, _, _, few, m) = granted-meets t h in let l = a .sought .least g few m in omega arith)
 
       z : smallest granted ≡ 0
       z = smallest-zero granted of .1 no

@@ -1,5 +1,5 @@
-// Contexts, seniority and weights: what a base and a context fix, each role's weight for a permission, and who may act in
-// a role.
+// Contexts, seniority and weights: what a base and a context fix, each role's weight for a permission, and who may act
+// in a role.
 ghost use mathlib.Core.Path.{_≡_};
 ghost use mathlib.Core.List.{List};
 ghost use Prim.Native.Nat.{ℕ, _<_};
