@@ -9,21 +9,21 @@ use twin::counts::counts;
 use crate::bases::users;
 use crate::cases::{Who, ALL};
 use crate::counting::of_report;
-use crate::fit::cost;
+use crate::fit;
 use crate::worst;
 
-/// Climbs from a base of [`worst::all`], prints what the base found costs and
-/// writes it to a file.
-pub fn print(seed: u64, steps: u64, name: &str, file: &str) {
+/// Climbs from a base of [`worst::all`] by what it costs one, prints what the
+/// base found costs and writes it to a file.
+pub fn print(seed: u64, steps: u64, name: &str, file: &str, who: Who) {
     let start = worst::all().into_iter().find(|base| base.0 == name);
     let (_, start) = start.unwrap_or_else(|| panic!("no base is called {name}"));
-    let found = climb(&mut Random::new(seed), steps, &start).bytes();
+    let found = climb(&mut Random::new(seed), steps, &start, who).bytes();
     std::fs::write(file, &found).expect("the file can be written");
     for (which, base) in [("start", &start.bytes()), ("found", &found)] {
         let [library, twin] = [Who::Library, Who::Twin].map(|who| of_report(base, who));
         println!(
             "{which}: library {library}, twin {twin}, cost {:.0}",
-            cost(base)
+            cost(base, who)
         );
         println!("{:?}", counts(base, at_minute(600)));
         println!("k {:?}", numbers(base));
@@ -42,13 +42,22 @@ fn numbers(base: &[u8]) -> Vec<u8> {
     library
 }
 
-fn climb(random: &mut Random, steps: u64, start: &BaseBuilder) -> BaseBuilder {
+/// What a report on the base costs: the twin by its counts; others by their
+/// instructions, which take long to count.
+fn cost(base: &[u8], who: Who) -> f64 {
+    match who {
+        Who::Twin => fit::cost(base),
+        _ => of_report(base, who) as f64,
+    }
+}
+
+fn climb(random: &mut Random, steps: u64, start: &BaseBuilder, who: Who) -> BaseBuilder {
     let mut base = start.clone();
-    let mut now = cost(&base.bytes());
+    let mut now = cost(&base.bytes(), who);
     let (mut best, mut most) = (base.clone(), now);
     for step in 0..steps {
         let next = changed(random, &base);
-        let then = cost(&next.bytes());
+        let then = cost(&next.bytes(), who);
         let heat = 0.03 * now * (1.0 - step as f64 / steps as f64).powi(2);
         if then >= now || share(random) < ((then - now) / heat).exp() {
             (base, now) = (next, then);
@@ -167,7 +176,7 @@ mod tests {
     #[test]
     fn a_climb_does_not_end_below_its_start() {
         let start = worst::gaps();
-        let found = climb(&mut Random::new(6), 50, &start);
-        assert!(cost(&found.bytes()) >= cost(&start.bytes()));
+        let found = climb(&mut Random::new(6), 50, &start, Who::Twin);
+        assert!(cost(&found.bytes(), Who::Twin) >= cost(&start.bytes(), Who::Twin));
     }
 }

@@ -13,15 +13,15 @@ use crate::worst;
 /// One, and the counts.
 const TERMS: usize = 13;
 
-/// What one of each term costs, by `bench --fit 1 400 twin`.
+/// What one of each term costs the twin, by `bench --fit 1 400 twin`.
 const COSTS: [f64; TERMS] = [
-    48873.3, 0.0, 33.3, 273.6, 2.0, 6.4, 5.5, 488.3, 0.4, 5.5, 22.0, 69.2, 177.8,
+    45723.3, 0.0, 29.9, 278.2, 2.1, 6.5, 5.3, 486.7, 0.4, 5.4, 24.0, 63.8, 177.5,
 ];
 
 /// A report's terms and its instructions.
 type Sample = ([f64; TERMS], f64);
 
-/// About how many instructions a report on the base takes.
+/// About how many instructions the twin's report on the base takes.
 pub fn cost(base: &[u8]) -> f64 {
     dot(&COSTS, &terms(base))
 }

@@ -9,12 +9,13 @@
 //! their names.
 //!
 //!     bench --growth
-//!     bench --climb SEED STEPS BASE FILE
+//!     bench --climb SEED STEPS BASE FILE WHO
 //!     bench --fit SEED BASES WHO
 //!
 //! The first prints how a report's instructions grow. The second looks for a
-//! base whose report costs more than that of one of the bases made to cost most,
-//! by a cost that the third fits to the instructions of `library` or `twin`.
+//! base whose report costs `library` or `twin` more than that of one of the bases
+//! made to cost most: the library by its instructions, three steps a second, the
+//! twin by costs like those that the third fits to the instructions of either.
 //!
 //!     bench --once CASE WHO
 //!     bench --input CASE FILE
@@ -55,8 +56,8 @@ fn main() {
             print_table("bytes of stack", &cases, bytes);
         }
         ["--growth"] => growth::print(),
-        ["--climb", seed, steps, base, file] => {
-            climb::print(number(seed), number(steps), base, file);
+        ["--climb", seed, steps, base, file, by] => {
+            climb::print(number(seed), number(steps), base, file, who_named(by));
         }
         ["--fit", seed, bases, by] => fit::print(number(seed), number(bases), who_named(by)),
         ref some => {

@@ -4,14 +4,16 @@
 //! What a report costs depends on how many multisets, of how many roles, are
 //! looked through for a clause: it is looked for with n entries as long as n
 //! times the lightest and the heaviest weight allow its sums. In `gaps` all
-//! weights are even and the sums asked for odd, so that there are none.
+//! weights are even and the sums asked for odd, so that there are none. In
+//! `no_takers` multisets meet a clause, but users are missing: the library looks
+//! at such multisets once more, one by one.
 
 use compare::builder::*;
 
 use crate::bases::{full_base, users};
 
 /// All of them, with their names.
-pub fn all() -> [(&'static str, BaseBuilder); 8] {
+pub fn all() -> [(&'static str, BaseBuilder); 10] {
     [
         ("gaps", gaps()),
         ("by numbers", by_numbers()),
@@ -21,6 +23,8 @@ pub fn all() -> [(&'static str, BaseBuilder); 8] {
         ("five users", five_users()),
         ("shut out", shut_out()),
         ("gathered gaps", gathered_gaps()),
+        ("two chains", two_chains()),
+        ("no takers", no_takers()),
     ]
 }
 
@@ -85,12 +89,19 @@ pub fn last_place() -> BaseBuilder {
 /// sum up to 120 would do; by the last clause six in role 7 suffice.
 pub fn wide_sums() -> BaseBuilder {
     let unmet = [(2, 3, 1), (3, 6, 3), (1, 2, 0), (1, 5, 255)];
-    let heavy = BaseBuilder {
-        group_clauses: four_each(&unmet),
+    with_last(
+        heavy(&unmet),
+        &[(0, 2, 6), (2, 4, 1), (3, 6, 128), (1, 5, 255)],
+    )
+}
+
+/// `gaps` with the largest weights that four policies give, and other clauses.
+fn heavy(conditions: &[GroupCondition]) -> BaseBuilder {
+    BaseBuilder {
+        group_clauses: four_each(conditions),
         policies: four_policies([(7, 5), (6, 5), (5, 5), (4, 5)]),
         ..gaps()
-    };
-    with_last(heavy, &[(0, 2, 6), (2, 4, 1), (3, 6, 128), (1, 5, 255)])
+    }
 }
 
 /// `gaps`, and by the last clause six in the two lightest roles suffice.
@@ -99,8 +110,13 @@ pub fn light_sixes() -> BaseBuilder {
 }
 
 /// The base with another last clause for each permission.
-fn with_last(mut base: BaseBuilder, conditions: &[GroupCondition]) -> BaseBuilder {
-    for clause in &mut base.group_clauses[48..] {
+fn with_last(base: BaseBuilder, conditions: &[GroupCondition]) -> BaseBuilder {
+    with_clause(base, 3, conditions)
+}
+
+/// The base with another clause, of four, for each permission.
+fn with_clause(mut base: BaseBuilder, which: usize, conditions: &[GroupCondition]) -> BaseBuilder {
+    for clause in &mut base.group_clauses[16 * which..][..16] {
         *clause = GroupClause::new(clause.permission, conditions);
     }
     base
@@ -131,14 +147,48 @@ pub fn gathered_gaps() -> BaseBuilder {
     }
 }
 
+/// `by_numbers` with two chains, of the even roles and of the odd ones. The users
+/// hold the first of one, and act in the others as their senior. The roles weigh
+/// 6, 6, 6, 6, 2, 2, 2 and 2; the last clause is looked for with one and two.
+pub fn two_chains() -> BaseBuilder {
+    let edge = |i: u8| Edge {
+        senior: i % 6,
+        junior: i % 6 + 2,
+    };
+    let sets: Vec<u8> = (0..24).map(|i| 1 << (i % 2)).collect();
+    let base = BaseBuilder {
+        hierarchy: (0..28).map(edge).collect(),
+        users: users(&sets),
+        policies: four_policies([(7, 2), (6, 2), (3, 4), (2, 4)]),
+        ..by_numbers()
+    };
+    with_last(base, &[(1, 4, 5), (2, 3, 5), (3, 6, 64), (1, 5, 12)])
+}
+
+/// The weights of `wide_sums`. Any six of a sum of at least 60 would do, and any
+/// group that acts in role 0. But nobody may act in role 0, and only five users
+/// in the other roles: they hold role 1 alone. So of eight multisets in a row
+/// nearly always one meets a clause and no group acts in it.
+pub fn no_takers() -> BaseBuilder {
+    let base = heavy(&[(1, 4, 13); 4]);
+    let base = with_clause(base, 2, &[(0, 2, 6), (1, 2, 60), (1, 2, 60), (1, 2, 60)]);
+    let base = with_last(base, &[(3, 6, 1), (2, 3, 6), (1, 2, 20), (1, 2, 20)]);
+    let sets = [[2; 5].as_slice(), &[0; 19]].concat();
+    BaseBuilder {
+        users: users(&sets),
+        ..base
+    }
+}
+
 #[cfg(test)]
 mod tests {
     use super::*;
     use compare::expect_report;
     use compare::questions::at_minute;
 
-    /// No group has an odd sum, and none acts in two roles that are one. Five
-    /// are no six; else six in role 7, or in 6 and 7, are the smallest group.
+    /// No group has an odd sum, and none acts in two roles that are one or in a
+    /// role of nobody. Five are no six; else six in role 7, or in 6 and 7, are
+    /// the smallest group.
     #[test]
     fn six_are_needed_or_no_group_suffices() {
         for (name, base) in all() {
