@@ -1,9 +1,10 @@
 -- Facts on Bools that the laws of the folds and their callers share.
 use mathlib.Core.Bool.{Bool, true, false, _&&_, _||_, not, cond, false≢true}
-use mathlib.Core.Path.{_≡_, refl, sym}
+use mathlib.Core.Path.{_≡_, refl, sym, _∙_}
 use mathlib.Core.Logic.{_⊎_, inl, inr, ⊎-elim}
-use Prim.Native.Nat.{ℕ}
-use borrow.Author.Tests.{lt-ltb, le-ltb, leb-true, leb-false, eqb-true, eq-eqb, ne-eqb}
+use Prim.Native.Nat.{ℕ, suc}
+use native.Mathlib.Nat.{suc-ne-zero}
+use borrow.Author.Tests.{lt-ltb, le-ltb, leb-true, leb-false, eqb-true, eqb-false, eq-eqb, ne-eqb}
 use lib.Dec.{ltb, leb, eqb}
 
 pub and-left : (a b : Bool) → (a && b) ≡ true → a ≡ true
@@ -76,6 +77,18 @@ refused y h = rw (ne-eqb _ _ h)
 
 pub unrefused : {r y : ℕ} → r ≡ 0 → cond (not (eqb r 0)) r y ≡ y
 unrefused h = rw h
+
+-- where a chain of refusals gives 0, its first link, a test or a refusal r, refuses nothing, and what follows gives 0
+pub none-met : (t : Bool) (n : ℕ) {y : ℕ} → cond t (suc n) y ≡ 0 → (t ≡ false) × (y ≡ 0)
+none-met true n h = absurd (suc-ne-zero n h)
+none-met false n h = (refl, h)
+
+pub none-refused : (r y : ℕ) → cond (not (eqb r 0)) r y ≡ 0 → (r ≡ 0) × (y ≡ 0)
+none-refused r y h =
+    ⊎-elim
+    (λ e. let none = eqb-true r 0 e in (none, sym (unrefused none) ∙ h))
+    (λ e. absurd (eqb-false r 0 e (rw e at h)))
+    (met-or-not (eqb r 0))
 
 -- two tests that are met together are one
 pub same-test : (a b : Bool) → (a ≡ true → b ≡ true) → (b ≡ true → a ≡ true) → a ≡ b

@@ -89,7 +89,7 @@ module _ (b : List ℕ) (ok : frameRefusal b ≡ 0) (t : ℕ) (there : t < 7) wh
   pub size-le : tableSize b t ≤ 1024
   size-le = records-size t (tableCount b t) there count-limit
 
-  offset-start : tableOffset b t ≡ tableStart b t
+  pub offset-start : tableOffset b t ≡ tableStart b t
   offset-start = eqb-true _ _ (not-false _ (or-right (ltb (limit t) (tableCount b t)) _ table-fine))
 
   -- table t ends where the trailer starts, or before

@@ -2,3 +2,4 @@ pub mod Frame
 pub mod Parameter
 pub mod Accepted
 pub mod Conditions
+pub mod Replaced

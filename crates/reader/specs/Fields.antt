@@ -70,8 +70,12 @@ policyRole a i = getD a (width policies * i) 0
 abbrev pub policyPermission : List ℕ → ℕ → ℕ
 policyPermission a i = getD a (width policies * i + 1) 0
 
+-- where the weight of policy i stands
+abbrev pub weightPlace : ℕ → ℕ
+weightPlace i = width policies * i + 2
+
 abbrev pub policyWeight : List ℕ → ℕ → ℕ
-policyWeight a i = getD a (width policies * i + 2) 0
+policyWeight a i = getD a (weightPlace i) 0
 
 abbrev pub policyType : List ℕ → ℕ → ℕ
 policyType a i = getD a (width policies * i + 3) 0
