@@ -11,6 +11,7 @@ ghost use Rattle.exports.specs.Packed.{packed, unpacked};
 ghost use Rattle.decision.specs.Decision.{decisionOf};
 ghost use Rattle.sheet.specs.Sheets.{opened, signed, asked};
 ghost use Rattle.sheet.specs.Form.{bytesOf, sheetOf};
+ghost use Rattle.shift.specs.Shift.{boundAnswer};
 
 // The base check: 0 or the first of refusals 1 to 9 that applies.
 #[no_mangle]
@@ -123,6 +124,15 @@ pub extern "C" fn release_sheet_ask(
     let at = Context { minute, day, zone };
     let s = sheet::form::read(sheet);
     sheet::ask(base, s, at) as u32
+}
+
+// How much one weight can shift: 0, or the first of refusals 1 to 9, 12 to 15 and 21 that applies; plus 256 times the
+// bound on the shift of the group's sum of weights. A refusal carries 0.
+#[no_mangle]
+pub extern "C" fn release_bound(base: &[u8], policy: u32, weight: u32, group: &[u8]) -> u64
+    ensures { λ r. ⌜ r ≡ packed (boundAnswer (now (base .entry)) policy weight (now (group .entry))) ⌝ }
+{
+    pack(shift::bound(base, policy, weight, group))
 }
 
 // An answer as one number.

@@ -1,2 +1,3 @@
 pub mod Shop
 pub mod Marked
+pub mod Reached

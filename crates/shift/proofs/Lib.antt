@@ -1,0 +1,3 @@
+pub mod Replaced
+pub mod Shift
+pub mod Laws
