@@ -38,86 +38,86 @@ in-order b ok u t l there =
     rw (offset-start b ok u (omega arith), offset-start b ok t there, ← sum-step (tableSize b) u)
     (sum-le-sum (tableSize b) (suc u) t l)
 
-module _ (b : List ℕ) (ok : frameRefusal b ≡ 0) (t : ℕ) (there : t < 7) (n : ℕ) (within : n < tableSize b t) (x : ℕ)
-  where
-    abbrev place : ℕ
-    place = tableOffset b t + n
+module _ (b : List ℕ) (ok : frameRefusal b ≡ 0) (t n x : ℕ) (there : t < 7) (within : n < tableSize b t) where
+  abbrev place : ℕ
+  place = tableOffset b t + n
 
-    -- the base with x as byte n of table t
-    abbrev c : List ℕ
-    c = set b place x
+  -- the base with x as byte n of table t
+  abbrev c : List ℕ
+  c = set b place x
 
-    same-trailer : trailer c ≡ trailer b
-    same-trailer = rw length-set
+  same-trailer : trailer c ≡ trailer b
+  same-trailer = rw length-set
 
-    -- the trailer's bytes stay
-    stays : (k : ℕ) → trailer b ≤ k → getD c k 0 ≡ getD b k 0
-    stays k l = let e = table-end b ok t there in getD-set-other b place k x 0 (λ q. omega arith)
+  -- the trailer's bytes stay
+  stays : (k : ℕ) → trailer b ≤ k → getD c k 0 ≡ getD b k 0
+  stays k l = let e = table-end b ok t there in getD-set-other b place k x 0 (λ q. omega arith)
 
-    stays-word : (k : ℕ) → trailer b ≤ k → word16 c k ≡ word16 b k
-    unfolding word16
-    stays-word k l = rw (stays k l, stays (k + 1) (omega arith))
+  stays-word : (k : ℕ) → trailer b ≤ k → word16 c k ≡ word16 b k
+  unfolding word16
+  stays-word k l = rw (stays k l, stays (k + 1) (omega arith))
 
-    pub same-roles : roleCount c ≡ roleCount b
-    unfolding roleCount
-    same-roles = rw same-trailer (stays _ (omega arith))
+  -- R stays
+  pub same-roles : roleCount c ≡ roleCount b
+  unfolding roleCount
+  same-roles = rw same-trailer (stays _ (omega arith))
 
-    same-offset : (u : ℕ) → tableOffset c u ≡ tableOffset b u
-    unfolding tableOffset
-    same-offset u = rw same-trailer (stays-word _ (omega arith))
+  same-offset : (u : ℕ) → tableOffset c u ≡ tableOffset b u
+  unfolding tableOffset
+  same-offset u = rw same-trailer (stays-word _ (omega arith))
 
-    same-count : (u : ℕ) → tableCount c u ≡ tableCount b u
-    unfolding tableCount
-    same-count u = rw same-trailer (stays-word _ (omega arith))
+  same-count : (u : ℕ) → tableCount c u ≡ tableCount b u
+  unfolding tableCount
+  same-count u = rw same-trailer (stays-word _ (omega arith))
 
-    same-start : (u : ℕ) → tableStart c u ≡ tableStart b u
-    unfolding tableStart
-    same-start u = sum-same (tableSize c) (tableSize b) u (λ k l. rw same-count)
+  same-start : (u : ℕ) → tableStart c u ≡ tableStart b u
+  unfolding tableStart
+  same-start u = sum-same (tableSize c) (tableSize b) u (λ k l. rw same-count)
 
-    same-letters : lettersBad c ≡ lettersBad b
-    unfolding lettersBad
-    same-letters =
-        any-same (letterBad c) (letterBad b) 4
-        (λ k l. rw (same-trailer, stays (trailer b + 32 + k) (omega arith)))
+  same-letters : lettersBad c ≡ lettersBad b
+  unfolding lettersBad
+  same-letters =
+      any-same (letterBad c) (letterBad b) 4
+      (λ k l. rw (same-trailer, stays (trailer b + 32 + k) (omega arith)))
 
-    same-reserved : reservedBad c ≡ reservedBad b
-    unfolding reservedBad
-    same-reserved =
-        any-same (reservedByteBad c) (reservedByteBad b) 3
-        (λ k l. rw (same-trailer, stays (trailer b + 29 + k) (omega arith)))
+  same-reserved : reservedBad c ≡ reservedBad b
+  unfolding reservedBad
+  same-reserved =
+      any-same (reservedByteBad c) (reservedByteBad b) 3
+      (λ k l. rw (same-trailer, stays (trailer b + 29 + k) (omega arith)))
 
-    same-tables : tablesBad c ≡ tablesBad b
-    unfolding tablesBad
-    same-tables =
-        let each = any-same (tableBad c) (tableBad b) 7 (λ k l. rw (same-count, same-offset, same-start)) in
-        rw (each, same-start, same-trailer)
+  same-tables : tablesBad c ≡ tablesBad b
+  unfolding tablesBad
+  same-tables =
+      let each = any-same (tableBad c) (tableBad b) 7 (λ k l. rw (same-count, same-offset, same-start)) in
+      rw (each, same-start, same-trailer)
 
-    -- so the base still has its tables
-    pub same-frame : frameRefusal c ≡ 0
-    unfolding frameRefusal lengthBad trailerBad rolesBad
-    same-frame = rw (length-set, same-letters, same-roles, same-reserved, same-tables) ok
+  -- so the base still has its tables
+  pub same-frame : frameRefusal c ≡ 0
+  unfolding frameRefusal lengthBad trailerBad rolesBad
+  same-frame = rw (length-set, same-letters, same-roles, same-reserved, same-tables) ok
 
-    -- the part of another table stays
-    part-stays : (u : ℕ) → u < 7 → (u ≡ t → ⊥) →
-        partOf c (tableOffset b u) (tableSize b u) ≡ partOf b (tableOffset b u) (tableSize b u)
-    part-stays u low other =
-        ⊎-elim
-        (λ e.
-        let o = in-order b ok u t (ltb-true _ _ e) there in
-        part-behind b place x (tableOffset b u) (tableSize b u) (omega arith))
-        (λ e.
-        let l : t ≤ u = ltb-false _ _ e in
-        let o = in-order b ok t u (omega arith) low in
-        part-before b place x (tableOffset b u) (tableSize b u) (omega arith))
-        (met-or-not (ltb u t))
+  -- the part of another table stays
+  part-stays : (u : ℕ) → u < 7 → (u ≡ t → ⊥) →
+      partOf c (tableOffset b u) (tableSize b u) ≡ partOf b (tableOffset b u) (tableSize b u)
+  part-stays u low other =
+      ⊎-elim
+      (λ e.
+      let o = in-order b ok u t (ltb-true _ _ e) there in
+      part-behind b place x (tableOffset b u) (tableSize b u) (omega arith))
+      (λ e.
+      let l : t ≤ u = ltb-false _ _ e in
+      let o = in-order b ok t u (omega arith) low in
+      part-before b place x (tableOffset b u) (tableSize b u) (omega arith))
+      (met-or-not (ltb u t))
 
-    -- and so does that table
-    pub others-stay : (u : ℕ) → u < 7 → (u ≡ t → ⊥) → tableOf c u ≡ tableOf b u
-    others-stay u low other =
-        rw (table-is c same-frame u low, table-is b ok u low, same-offset, same-count) (part-stays u low other)
+  -- and so does that table
+  pub others-stay : (u : ℕ) → u < 7 → (u ≡ t → ⊥) → tableOf c u ≡ tableOf b u
+  others-stay u low other =
+      rw (table-is c same-frame u low, table-is b ok u low, same-offset, same-count) (part-stays u low other)
 
-    -- the table itself has x as its byte n
-    pub table-replaced : tableOf c t ≡ set (tableOf b t) n x
-    table-replaced =
-        rw (table-is c same-frame t there, table-is b ok t there, same-offset, same-count)
-        (part-within b n x (tableOffset b t) (tableSize b t) within)
+  -- the table itself has x as its byte n
+  pub table-replaced : tableOf c t ≡ set (tableOf b t) n x
+  table-replaced =
+      rw (table-is c same-frame t there, table-is b ok t there, same-offset, same-count)
+      (part-within b n x (tableOffset b t) (tableSize b t) within)

@@ -131,3 +131,7 @@ userCount b = recordCount users (tableOf b users)
 -- the number of permissions
 abbrev pub permissionCount : List ℕ → ℕ
 permissionCount b = recordCount permissions (tableOf b permissions)
+
+-- the number of policies
+abbrev pub policyCount : List ℕ → ℕ
+policyCount b = recordCount policies (tableOf b policies)

@@ -1,32 +1,54 @@
 -- The bound: what its answer says, and the theorem in its words.
 use Prim.Native.Nat.{ℕ, _<_, _≤_}
-use mathlib.Core.Bool.{false, not, cond}
+use mathlib.Core.Bool.{true, false, not, cond, or-true}
 use mathlib.Core.List.{List}
-use mathlib.Core.Logic.{⊎-elim}
+use mathlib.Core.Logic.{_⊎_, inl, inr, ⊎-elim, _↔_}
 use mathlib.Core.Path.{_≡_, refl}
 use native.Mathlib.Omega.{arith}
 use native.Mathlib.Nat.{mul-le-mul}
-use borrow.Author.Tests.{eqb-true, ne-eqb, ltb-true, ltb-false, not-false, lt-ltb}
+use borrow.Author.Tests.{eqb-true, eq-eqb, ne-eqb, ltb-true, ltb-false, not-false, lt-ltb}
 use lib.Dec.{ltb, eqb}
-use Rattle.folds.proofs.Bools.{or-left, or-right, met-or-not, none-met, none-refused}
+use Rattle.folds.proofs.Bools.{or-left, or-right, or-first, or-either, met-or-not, none-met, none-refused}
 use Rattle.folds.proofs.Numbers.{count-same, count-le}
-use Rattle.reader.specs.Tables.{hierarchy, policies, permissionCount, roleCount, userCount, tableOf}
+use Rattle.reader.specs.Tables.{hierarchy, policies, permissionCount, policyCount, roleCount, userCount, tableOf}
 use Rattle.reader.specs.Fields.{policyRole}
 use Rattle.reader.specs.Rules.{outside, refusalOf}
 use Rattle.reader.specs.declared.Answer.{Answer}
+use Rattle.reader.proofs.Frame.{roles-range}
 use Rattle.reader.proofs.Accepted.{accepted, policy-fine}
 use Rattle.weights.specs.declared.Context.{Context}
 use Rattle.weights.specs.Contexts.{outOfRange}
+use Rattle.weights.specs.Seniority.{Chain}
 use Rattle.weights.specs.Acting.{mayAct}
 use Rattle.weights.specs.Setting.{Juniors}
+use Rattle.weights.proofs.Chains.{senior-chain}
 use Rattle.decision.specs.Groups.{entryCount, entryRole, groupRefusal}
 use Rattle.decision.specs.Decision.{membersOf, groupDecision, decisionOf}
 use Rattle.decision.proofs.Granting.{Members, members-of, short-enough}
-use Rattle.shift.specs.Shift.{distance, policyCount, weightIn, withWeight, OneWeight, roleOrSenior, touched}
+use Rattle.shift.specs.Shift.{distance, weightIn, withWeight, OneWeight, roleOrSenior, touched}
 use Rattle.shift.specs.Shift.{boundOf, changeRefused, boundRefusal, boundAnswer, Bounded}
 use Rattle.shift.specs.Shift.{atOrAbove, entriesAtOrAbove}
 use Rattle.shift.proofs.Replaced.{new-weight, still-accepted}
 use Rattle.shift.proofs.Shift.{shifts}
+
+-- in words: the role is the policy's, or a chain of one or more H records leads from it to the policy's
+pub role-or-senior : (b : List ℕ) → refusalOf b ≡ 0 → (i r : ℕ) →
+    (roleOrSenior b i r ≡ true) ↔
+    ((r ≡ policyRole (tableOf b policies) i) ⊎ Chain (tableOf b hierarchy) r (policyRole (tableOf b policies) i))
+unfolding roleOrSenior
+role-or-senior b ok i r =
+    let q = policyRole (tableOf b policies) i in
+    let small = roles-range b (accepted b ok .frame) .1 in
+    let chain = senior-chain (roleCount b) (tableOf b hierarchy) small (accepted b ok .hierarchy) r q in (
+      λ e. ⊎-elim (λ s. inl (eqb-true r q s)) (λ s. inr (chain .0 s)) (or-either (eqb r q) _ e),
+      λ s. ⊎-elim (λ e. or-first _ (eq-eqb r q e)) (λ c. rw (chain .1 c, or-true)) s,
+    )
+
+-- 1 to 9 are given as the decision gives them, for any permission and context
+pub as-checked : (b g : List ℕ) → (refusalOf b ≡ 0 → ⊥) → (i w : ℕ) (at : Context) (p : ℕ) →
+    boundRefusal b i w g ≡ decisionOf b at p g
+unfolding boundRefusal decisionOf
+as-checked b g bad i w at p = rw (ne-eqb _ _ bad)
 
 -- 12 to 15 are given as the decision gives them, for any permission that is there and any context in range
 pub as-decided : (b g : List ℕ) → refusalOf b ≡ 0 → (membersOf b g ≡ 0 → ⊥) → (i w : ℕ) (at : Context) (p : ℕ) →

@@ -11,14 +11,14 @@ use lib.ListN.{getD, set, length-set}
 use lib.Seq.{getD-set-same, getD-set-other}
 use Rattle.folds.proofs.Bools.{or-neither, met-or-not}
 use Rattle.folds.proofs.Tests.{any-same}
-use Rattle.reader.specs.Tables.{policies, roleCount, tableOf, tableSize, recordCount, frameRefusal}
+use Rattle.reader.specs.Tables.{policies, width, roleCount, tableOf, tableSize, recordCount, policyCount, frameRefusal}
 use Rattle.reader.specs.Fields.{weightPlace, policyWeight}
 use Rattle.reader.specs.Rules.{outside, policyBad, policiesBad, recordsRefusal, refusalOf}
 use Rattle.reader.proofs.Frame.{table-length}
 use Rattle.reader.proofs.Accepted.{accepted, accepted-frame, refused-records, record-within, policy-fine}
 use Rattle.reader.proofs.Replaced.{same-roles, same-frame, others-stay, table-replaced}
 use Rattle.weights.proofs.Agree.{SameChoice}
-use Rattle.shift.specs.Shift.{policyCount, weightIn, withWeight}
+use Rattle.shift.specs.Shift.{weightIn, withWeight}
 
 -- the table A with w as the weight of policy i
 abbrev pub replacedIn : List ℕ → ℕ → ℕ → List ℕ
@@ -29,10 +29,10 @@ module _ (a : List ℕ) (i w : ℕ) where
   pub same-choice : SameChoice a (replacedIn a i w)
   same-choice = record {
     count = rw length-set;
-    role = λ k l. stays (8 * k) (λ q. omega arith);
-    permission = λ k l. stays (8 * k + 1) (λ q. omega arith);
-    type = λ k l. stays (8 * k + 3) (λ q. omega arith);
-    context = λ k l. stays (8 * k + 4) (λ q. omega arith);
+    role = λ k l. stays (width policies * k) (λ q. omega arith);
+    permission = λ k l. stays (width policies * k + 1) (λ q. omega arith);
+    type = λ k l. stays (width policies * k + 3) (λ q. omega arith);
+    context = λ k l. stays (width policies * k + 4) (λ q. omega arith);
   }
     where
       stays : (n : ℕ) → (n ≡ weightPlace i → ⊥) → getD a n 0 ≡ getD (replacedIn a i w) n 0
@@ -82,25 +82,25 @@ module _ (b : List ℕ) (ok : refusalOf b ≡ 0) (i : ℕ) (there : i < policyCo
 
   -- R stays
   pub roles-stay : roleCount (withWeight b i w) ≡ roleCount b
-  roles-stay = same-roles b frame policies (lit< tt) (weightPlace i) within w
+  roles-stay = same-roles b frame policies (weightPlace i) w (lit< tt) within
 
   -- the other tables stay
   pub table-stays : (t : ℕ) → t < 7 → (t ≡ policies → ⊥) → tableOf (withWeight b i w) t ≡ tableOf b t
-  table-stays t low other = others-stay b frame policies (lit< tt) (weightPlace i) within w t low other
+  table-stays t low other = others-stay b frame policies (weightPlace i) w (lit< tt) within t low other
 
   -- in A the one weight is replaced
   pub policies-replaced : tableOf (withWeight b i w) policies ≡ replacedIn (tableOf b policies) i w
-  policies-replaced = table-replaced b frame policies (lit< tt) (weightPlace i) within w
+  policies-replaced = table-replaced b frame policies (weightPlace i) w (lit< tt) within
 
   -- the new weight is w
   pub new-weight : weightIn (withWeight b i w) i ≡ w
   new-weight = rw policies-replaced (its-weight (tableOf b policies) i w there)
 
-  -- of 1 to 5, nothing is refused
+  -- with a weight of 1 to 5 the base is accepted
   pub still-accepted : outside 1 5 w ≡ false → refusalOf (withWeight b i w) ≡ 0
   unfolding recordsRefusal
   still-accepted fits =
-      refused-records _ (same-frame b frame policies (lit< tt) (weightPlace i) within w)
+      refused-records _ (same-frame b frame policies (weightPlace i) w (lit< tt) within)
       ∙ rw (
         roles-stay,
         table-stays 0 (lit< tt) (λ q. omega arith),

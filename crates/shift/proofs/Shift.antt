@@ -11,10 +11,10 @@ use native.Mathlib.Nat.{le-refl, mul-add, mul-one}
 use borrow.Author.Tests.{eqb-true, eqb-false, lt-ltb}
 use lib.Dec.{lit<, eqb}
 use Rattle.folds.specs.Below.{sumBelow, countBelow}
-use Rattle.folds.proofs.Bools.{and-left, or-left, or-right, or-either, met-or-not, never-met}
+use Rattle.folds.proofs.Bools.{and-left, or-left, or-right, met-or-not, never-met}
 use Rattle.folds.proofs.Tests.{first-at}
 use Rattle.folds.proofs.Numbers.{sum-same, sum-pick}
-use Rattle.reader.specs.Tables.{hierarchy, contexts, policies, roleCount, tableOf, recordCount}
+use Rattle.reader.specs.Tables.{hierarchy, contexts, policies, roleCount, tableOf, recordCount, policyCount}
 use Rattle.reader.specs.Fields.{policyRole, policyWeight}
 use Rattle.reader.specs.Rules.{refusalOf}
 use Rattle.reader.proofs.Frame.{roles-range}
@@ -26,7 +26,7 @@ use Rattle.weights.specs.Weights.{candidate, chosen, chosenWeight, anyType, typ
 use Rattle.weights.proofs.Agree.{same-chosen}
 use Rattle.weights.proofs.Chains.{senior-down}
 use Rattle.decision.specs.Groups.{entryCount, entryRole, sumOf}
-use Rattle.shift.specs.Shift.{distance, policyCount, weightIn, withWeight, OneWeight, sumBy}
+use Rattle.shift.specs.Shift.{distance, weightIn, withWeight, OneWeight, sumBy}
 use Rattle.shift.specs.Shift.{roleOrSenior, touched, Shifts}
 use Rattle.shift.proofs.Replaced.{replacedIn, same-choice, other-weight, its-weight}
 use Rattle.shift.proofs.Replaced.{roles-stay, table-stays, policies-replaced, new-weight}
@@ -75,7 +75,7 @@ module _ (inForce f : ℕ → Bool) (a : List ℕ) (i w : ℕ) (there : i < reco
   unfolding chosenWeight
   another-counts other = rw (same-policy, other-weight a i w k other)
 
-  -- where the changed one counts, the two weights are its
+  -- where the changed one counts, they are its weights before and after
   changed-counts : k ≡ i → (before ≡ policyWeight a i) × (after ≡ w)
   unfolding chosenWeight
   changed-counts e = (rw (e, lt-ltb _ _ there), rw (same-policy, e, lt-ltb _ _ there) (its-weight a i w there))
@@ -210,14 +210,25 @@ module _ (b : List ℕ) (ok : refusalOf b ≡ 0) (i : ℕ) (there : i < policyCo
         let s = same-others r in
         rw (x, y) (omega arith)
 
-    shift-either : (r : ℕ) → roleOrSenior b i r ≡ true → distance (weight b at r p) (weight c at r p) ≤ d
-    unfolding roleOrSenior
-    shift-either r e =
-        ⊎-elim (λ s. rw (eqb-true r q s) shift-itself) (shift-senior r) (or-either (eqb r q) _ e)
+    -- so no weight shifts by more
+    shift-any : (r : ℕ) → distance (weight b at r p) (weight c at r p) ≤ d
+    shift-any r =
+        ⊎-elim (λ e. rw (eqb-true r q e) shift-itself)
+        (λ e. ⊎-elim (shift-senior r)
+        (λ below. let same = still r (eqb-false r q e) below in omega arith)
+        (met-or-not (seniorTo (tableOf b hierarchy) r q)))
+        (met-or-not (eqb r q))
 
     still-neither : (r : ℕ) → roleOrSenior b i r ≡ false → weight b at r p ≡ weight c at r p
     unfolding roleOrSenior
     still-neither r e = still r (eqb-false _ _ (or-left _ _ e)) (or-right (eqb r q) _ e)
+
+  -- both bases tell the same entries
+  same-touched : (g : List ℕ) → touched b i g ≡ touched c i g
+  unfolding touched roleOrSenior
+  same-touched g =
+      let same = same-choice (tableOf b policies) i w .role i there in
+      rw (same-hierarchy, policies-replaced b ok i there w, ← same)
 
 -- two accepted bases that differ only in the weight of policy i
 module _ (b c : List ℕ) (i : ℕ) (one : OneWeight b c i) where
@@ -229,7 +240,7 @@ module _ (b c : List ℕ) (i : ℕ) (one : OneWeight b c i) where
       distance (weight b at r p) (weight c at r p) ≤ difference
   role-shifts at p r e =
       let (w, is) = one .replaced in
-      rw (is, new-weight b (one .first) i (one .there) w) (shift-either b (one .first) i (one .there) w at p r e)
+      rw (is, new-weight b (one .first) i (one .there) w) (shift-any b (one .first) i (one .there) w at p r)
 
   role-stays : (at : Context) (p r : ℕ) → roleOrSenior b i r ≡ false → weight b at r p ≡ weight c at r p
   role-stays at p r e =
@@ -243,6 +254,10 @@ module _ (b c : List ℕ) (i : ℕ) (one : OneWeight b c i) where
       sum-shift (λ k. weight b at (entryRole g k) p) (λ k. weight c at (entryRole g k) p)
       (λ k. roleOrSenior b i (entryRole g k)) difference
       (λ k e. role-shifts at p (entryRole g k) e) (λ k e. role-stays at p (entryRole g k) e) (entryCount g)
+
+  -- the number of entries is the same by either base
+  pub touched-same : (g : List ℕ) → touched b i g ≡ touched c i g
+  touched-same g = let (w, is) = one .replaced in rw is (same-touched b (one .first) i (one .there) w g)
 
 -- the theorem
 pub shifts : (b c : List ℕ) (i : ℕ) → OneWeight b c i → Shifts b c i

@@ -7,7 +7,7 @@ use lib.ListN.{getD, set}
 use lib.Dec.{ltb, eqb}
 use Rattle.folds.specs.Below.{countBelow}
 use Rattle.folds.specs.Sets.{inSet}
-use Rattle.reader.specs.Tables.{hierarchy, policies, tableOffset, tableOf, recordCount}
+use Rattle.reader.specs.Tables.{hierarchy, policies, tableOffset, tableOf, policyCount}
 use Rattle.reader.specs.Fields.{weightPlace, policyRole, policyWeight}
 use Rattle.reader.specs.Rules.{outside, refusalOf}
 use Rattle.reader.specs.declared.Answer.{Answer}
@@ -20,10 +20,6 @@ use Rattle.decision.specs.Decision.{membersOf}
 -- the difference of two numbers: the larger less the smaller; subtraction ends at 0, so one of the two terms is 0
 abbrev pub distance : ℕ → ℕ → ℕ
 distance x y = (x - y) + (y - x)
-
--- the number of policies
-abbrev pub policyCount : List ℕ → ℕ
-policyCount b = recordCount policies (tableOf b policies)
 
 -- the weight of policy i
 abbrev pub weightIn : List ℕ → ℕ → ℕ

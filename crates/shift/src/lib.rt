@@ -9,7 +9,7 @@ ghost use Rattle.decision.specs.Groups.{entryCount, entryRole};
 ghost use Rattle.shift.specs.Shift.{distance, changeRefused, boundAnswer, atOrAbove, entriesAtOrAbove};
 
 // Entry point: by how much, at most, the group's sum of weights shifts where the policy gets this weight; refusals 1 to
-// 9, 12 to 15, then 21.
+// 9, 12 to 15, then 21. A refusal carries 0.
 pub fn bound(base: &[u8], policy: u32, weight: u32, group: &[u8]) -> Answer
     ensures { λ r. ⌜ r ≡ boundAnswer (now (base .entry)) policy weight (now (group .entry)) ⌝ }
 {
@@ -52,7 +52,7 @@ fn change_refused(count: usize, policy: u32, weight: u32) -> bool
     5 < weight
 }
 
-// The bound, by the table A, the juniors of each role and a group of 1 to 6 entries in roles below 8.
+// The bound, by the table A, the juniors of each role and a group of at most 6 entries, in roles below 8.
 fn bound_of(a: &[u8], juniors: [u8; 8], policy: usize, weight: u8, group: &[u8]) -> u32
     requires { ⌜
         (policy < recordCount policies (now a)) ×
@@ -68,6 +68,7 @@ fn bound_of(a: &[u8], juniors: [u8; 8], policy: usize, weight: u8, group: &[u8])
     difference * entries_at_or_above(juniors, a[at], group)
 }
 
+// The difference of two weights.
 fn difference_of(x: u8, y: u8) -> u32
     ensures { λ r. ⌜ (r ≡ distance x y) × (r ≤ 255) ⌝ }
 {

@@ -1,4 +1,4 @@
--- The bound is reached: by computing both sides.
+-- The bound on the small shop: by computing both sides.
 use mathlib.Core.Path.{refl}
 use Rattle.reader.specs.Bytes.{word16, word32}
 use Rattle.reader.specs.Tables.{tableOf, tableOffset, tableCount, tableStart, roleCount}
@@ -14,10 +14,10 @@ use Rattle.decision.specs.Groups.{sumOf, lengthRefused, someUnknown, standsBefo
 use Rattle.decision.specs.Groups.{membersRefusal}
 use Rattle.shift.specs.Shift.{roleOrSenior, touched, boundOf, changeRefused, boundRefusal, boundAnswer}
 use Rattle.shop.specs.Shop.{shop}
-use Rattle.shop.specs.Reached.{Reached}
+use Rattle.shop.specs.Reached.{sideBySide, idle, behind, Reached}
 
 pub reached : Reached
-unfolding shop
+unfolding shop sideBySide idle behind
     word16 word32 tableOf tableOffset tableCount tableStart roleCount frameRefusal
     lengthBad lettersBad trailerBad rolesBad reservedBad tablesBad
     hierarchyBad usersBad parameterOk codeProduct clausesBad clauseBad clauseSlotBad
@@ -26,7 +26,10 @@ unfolding shop
     lengthRefused someUnknown someTwice standsBefore someIneligible heldBy mayAct membersRefusal sumOf
     roleOrSenior touched boundOf changeRefused boundRefusal boundAnswer
 reached = record {
-  by-manager = record { accepted = refl; bound = refl; reached = λ d z. refl };
-  by-buyer = record { accepted = refl; bound = refl; reached = λ d z. refl };
-  by-clerk = record { accepted = refl; bound = refl; reached = λ d z. refl };
+  by-manager = record { bound = record { accepted = refl; answer = refl }; sums = λ d z. refl };
+  by-buyer = record { bound = record { accepted = refl; answer = refl }; sums = λ d z. refl };
+  by-clerk = record { bound = record { accepted = refl; answer = refl }; sums = λ d z. refl };
+  at-the-side = record { bound = record { accepted = refl; answer = refl }; sums = λ d z. refl };
+  by-role-alone = record { bound = record { accepted = refl; answer = refl }; sums = λ d z. refl };
+  by-role-behind = record { bound = record { accepted = refl; answer = refl }; sums = λ d z. refl };
 }

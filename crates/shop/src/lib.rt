@@ -1,1 +1,1 @@
-// Theorems alone: the paper's small shop and its marked cases.
+// Theorems alone: the paper's small shop, its marked cases, and the bound of request Three there.

@@ -11,7 +11,7 @@ use lib.ListN.{length}
 use borrow.Author.Needs.{needs}
 use borrow.Author.Tests.{ltb-false}
 use Rattle.folds.proofs.Bools.{met, passed, refused, unrefused, or-right}
-use Rattle.reader.specs.Tables.{hierarchy, policies, roleCount, userCount, tableOf, recordCount}
+use Rattle.reader.specs.Tables.{hierarchy, policies, roleCount, userCount, tableOf, recordCount, policyCount}
 use Rattle.reader.specs.Fields.{policyRole, policyWeight}
 use Rattle.reader.specs.Rules.{outside, refusalOf}
 use Rattle.reader.proofs.Frame.{roles-range}
@@ -21,7 +21,7 @@ use Rattle.weights.specs.Setting.{Juniors}
 use Rattle.decision.specs.Groups.{entryCount, entryRole}
 use Rattle.decision.specs.Decision.{membersOf}
 use Rattle.decision.proofs.Granting.{Members, members-of, short-enough, role-below}
-use Rattle.shift.specs.Shift.{distance, policyCount, changeRefused, entriesAtOrAbove}
+use Rattle.shift.specs.Shift.{distance, changeRefused, entriesAtOrAbove}
 use Rattle.shift.specs.Shift.{boundOf, boundRefusal}
 use Rattle.shift.proofs.Laws.{touched-by, change-allowed, answer-refused, answer-given}
 use Rattle.shift.proofs.bound.Statement.{statement}

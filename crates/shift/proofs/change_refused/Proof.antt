@@ -2,6 +2,7 @@
 use Prim.Native.Nat.{ℕ, _<_, _≤_}
 use mathlib.Core.Bool.{true}
 use mathlib.Core.Path.{_≡_}
+use native.Mathlib.Omega.{arith}
 use lib.Dec.{ltb}
 use borrow.Author.Tests.{lt-ltb, le-ltb}
 use Rattle.shift.specs.Shift.{changeRefused}
@@ -23,13 +24,24 @@ module _ (n i w : ℕ) where
   rest there h = rw (lt-ltb i n there, le-ltb w 1 h)
 
 returns : tie.Need-returns
-returns c = absent _ _ _ (c .if1 .taken)
+returns c =
+    let a = c .before .args in
+    let gone : a .count ≤ a .policy = omega (arith, c .if1 .taken) in
+    absent (a .count) (a .policy) (a .weight) gone
 
 returns-2 : tie.Need-returns-2
-returns-2 c = too-light _ _ _ (c .before .if1 .left) (c .if2 .taken)
+returns-2 c =
+    let a = c .before .before .args in
+    let there : a .policy < a .count = omega (arith, c .before .if1 .left) in
+    let light : a .weight < 1 = omega (arith, c .if2 .taken) in
+    too-light (a .count) (a .policy) (a .weight) there light
 
 returns-3 : tie.Need-returns-3
-returns-3 c = rest _ _ _ (c .before .if1 .left) (c .if2 .left)
+returns-3 c =
+    let a = c .before .before .args in
+    let there : a .policy < a .count = omega (arith, c .before .if1 .left) in
+    let heavy : 1 ≤ a .weight = omega (arith, c .if2 .left) in
+    rest (a .count) (a .policy) (a .weight) there heavy
 
 pub change-refused-spec : {M : Type 1} → statement M
 change-refused-spec = tie.close (tie.spec returns returns-2 returns-3)
