@@ -69,9 +69,10 @@
 #define RELEASE_SHEET_ENTRIES 2
 
 /* The refusals, in checking order; each call's comment says which it can give.
-   For signing the order is 1 to 9, 13, 14, 15, 20. The tables of a base are
-   H (hierarchy), U (users), P (permissions), K (group clauses), C (context
-   clauses), A (policies) and X (exclusions); R is the number of roles. */
+   For signing the order is 1 to 9, 13, 14, 15, 20, for a bound 1 to 9, 12 to
+   15, 21. The tables of a base are H (hierarchy), U (users), P (permissions),
+   K (group clauses), C (context clauses), A (policies) and X (exclusions); R
+   is the number of roles. */
 enum release_refusal {
     /* No refusal: granted or done. */
     RELEASE_DONE = 0,
@@ -117,7 +118,9 @@ enum release_refusal {
     /* The buffer is shorter than 13 times the number of permissions. */
     RELEASE_REFUSAL_REPORT_BUFFER = 19,
     /* The sheet already holds six entries. */
-    RELEASE_REFUSAL_SHEET_FULL = 20
+    RELEASE_REFUSAL_SHEET_FULL = 20,
+    /* The policy isn't in A, or its new weight isn't 1 to 5. */
+    RELEASE_REFUSAL_NO_POLICY_OR_WEIGHT = 21
 };
 
 #ifdef __cplusplus
@@ -181,6 +184,25 @@ uint64_t release_conflicts(const uint8_t *base, size_t base_len,
                            uint8_t *out, size_t out_len);
 
 /*
+ * How far a new weight of one policy can shift a group's sum of weights:
+ * refusal + 256 * bound. The refusal is 0, or the first of 1 to 9, 12 to 15 and
+ * 21 that applies; if refused, the bound is 0. No byte is written.
+ *
+ * The policy is its number in A, from 0 on; the new weight is 1 to 5. Numbers
+ * aren't cut: policy 256 is refused by 21, and so is weight 256. The group is
+ * its entries' bytes, in any order; 12 to 15 are those of release_decide.
+ *
+ * Of 0, the base with that weight in place of the old one passes the check, and
+ * for every permission and context the sum of weights of this group by it
+ * differs from the sum by this base by at most the bound: the difference of the
+ * two weights times the number of entries whose role is the policy's or senior
+ * to it, whatever the policy's type, permission and context. It is at most 24.
+ */
+uint64_t release_bound(const uint8_t *base, size_t base_len,
+                       uint32_t policy, uint32_t weight,
+                       const uint8_t *group, size_t group_len);
+
+/*
  * Opens a sheet, which collects signatures for a permission: 0, or the first of
  * refusals 1 to 10 that applies. The number isn't cut: permission 256 is
  * refused by 10.
@@ -217,12 +239,14 @@ uint32_t release_sheet_ask(const uint8_t *base, size_t base_len,
                            uint32_t minute, uint32_t day, uint32_t zone,
                            const uint8_t *sheet);
 
-/* The refusal in an answer of release_report or release_conflicts. */
+/* The refusal in an answer of release_report, release_conflicts or
+   release_bound. */
 static inline uint32_t release_answer_refusal(uint64_t answer) {
     return (uint32_t)(answer % 256);
 }
 
-/* The count in an answer of release_report or release_conflicts. */
+/* The count in an answer of release_report or release_conflicts, or the bound
+   in one of release_bound. */
 static inline uint32_t release_answer_count(uint64_t answer) {
     return (uint32_t)(answer / 256);
 }

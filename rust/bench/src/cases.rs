@@ -17,6 +17,8 @@ pub enum Call {
     /// By a user in a role.
     Sign(u32, u32),
     Ask,
+    /// For a policy and its new weight.
+    Bound(u32, u32),
 }
 
 /// Who answers.
@@ -45,7 +47,7 @@ pub struct Case {
     pub call: Call,
     pub base: Vec<u8>,
     pub at: Context,
-    /// Asked of permission 0.
+    /// Asked of permission 0, or bounded.
     pub group: Vec<u8>,
     /// For permission 0, holding the group.
     pub sheet: Sheet,
@@ -92,6 +94,10 @@ impl Case {
                 release::answers::sheet_sign(&self.base, user, role, self.lent_sheet(out)).into()
             }
             Call::Ask => release::answers::sheet_ask(&self.base, at, &self.sheet).into(),
+            Call::Bound(policy, weight) => {
+                let group = &self.group;
+                number(release::answers::bound(&self.base, policy, weight, group))
+            }
         }
     }
 
@@ -106,6 +112,9 @@ impl Case {
                 twin::sheet_sign(&self.base, user, role, self.lent_sheet(out)).into()
             }
             Call::Ask => twin::sheet_ask(&self.base, self.at, &self.sheet).into(),
+            Call::Bound(policy, weight) => {
+                number(twin::bound(&self.base, policy, weight, &self.group))
+            }
         }
     }
 
@@ -120,6 +129,9 @@ impl Case {
                 model::sheet_sign(&self.base, user, role, self.lent_sheet(out)).into()
             }
             Call::Ask => model::sheet_ask(&self.base, self.at, &self.sheet).into(),
+            Call::Bound(policy, weight) => {
+                number(model::bound(&self.base, policy, weight, &self.group))
+            }
         }
     }
 }
@@ -157,6 +169,15 @@ pub fn cases() -> Vec<Case> {
         case("ask small shop", Call::Ask, &small, &[0, 0, 2, 2]),
         case("ask typical shop", Call::Ask, &typical, &[0, 0, 6, 3]),
         case("ask full base", Call::Ask, &full, &six),
+        case("bound small shop", Call::Bound(2, 5), &small, &[0, 0, 2, 2]),
+        case(
+            "bound typical shop",
+            Call::Bound(19, 5),
+            &typical,
+            &[0, 0, 6, 3],
+        ),
+        case("bound full base", Call::Bound(63, 5), &full, &six),
+        case("bound from above", Call::Bound(63, 5), &above, &six_below),
         report("report small shop", &small),
         report("report typical shop", &typical),
         report("report full base", &full),
@@ -219,5 +240,14 @@ mod tests {
             };
             assert_eq!(answers[0] % 256, refusal, "{}", case.name);
         }
+    }
+
+    /// Of full bases, six times a difference of 3.
+    #[test]
+    fn the_bounds_are_above_0() {
+        let all = cases().into_iter();
+        let bounds = all.filter(|case| matches!(case.call, Call::Bound(..)));
+        let bounds = bounds.map(|case| case.answer(Who::Model, &mut [0; 3 * 2_784]) / 256);
+        assert_eq!(bounds.collect::<Vec<_>>(), [8, 2, 18, 18]);
     }
 }

@@ -7,9 +7,14 @@ use crate::shown::{self, RECORD};
 /// The fewest H records of a chain from a role that the user holds to the one
 /// acted in: 0 if the user holds it, nothing if no chain leads to it.
 pub fn records_down(base: &Base, [user, role]: [u8; 2]) -> Option<u8> {
-    let mut roles: Vec<u8> = (0..base.roles)
-        .filter(|held| base.holds(user, *held))
-        .collect();
+    let roles = 0..base.roles;
+    let held = roles.filter(|held| base.holds(user, *held)).collect();
+    records_between(base, held, role)
+}
+
+/// The fewest H records of a chain from one of these roles to another: 0 if it
+/// is among them, nothing if no chain leads to it.
+pub fn records_between(base: &Base, mut roles: Vec<u8>, role: u8) -> Option<u8> {
     for records in 0..base.roles {
         if roles.contains(&role) {
             return Some(records);

@@ -1,9 +1,11 @@
 //! Bases to try, and the comparison of the library's answers with the model's.
 
 pub mod acting;
+pub mod bounds;
 pub mod builder;
 pub mod capped;
 pub mod cases;
+pub mod changes;
 pub mod clashing;
 pub mod damage;
 pub mod lent;

@@ -55,7 +55,7 @@ pub fn morning(random: &mut Random) -> Morning {
 }
 
 /// A base to start from, mostly of many users.
-fn sound_base(random: &mut Random) -> BaseBuilder {
+pub(crate) fn sound_base(random: &mut Random) -> BaseBuilder {
     match random.below(16) {
         0 => random_base(random, Size::Small),
         1 => random_base(random, Size::Any),

@@ -49,6 +49,11 @@ pub fn random_question(random: &mut Random, records: &BaseBuilder, base: &Base) 
 
 /// Mostly a permission that is there.
 pub fn any_permission(random: &mut Random, count: usize) -> u32 {
+    any_number(random, count)
+}
+
+/// Mostly the number of one of so many records.
+pub(crate) fn any_number(random: &mut Random, count: usize) -> u32 {
     let inside = random.below(count.max(1));
     if random.chance(12) {
         random.pick(&[count, 255, 256, 256 + inside, 65_536, 0xffff_ffff]) as u32
@@ -150,19 +155,23 @@ pub(crate) fn near_smallest(random: &mut Random, question: &Question) -> Vec<[u8
 fn damaged_group(random: &mut Random, question: &Question) -> Vec<u8> {
     let mut group = sound_group(random, question);
     if group.is_empty() {
-        group.push(random_entry(random, question));
+        group.push(random_entry(random, question.base));
     }
     for _ in 0..random.pick(&[1, 1, 2]) {
         spoil_entry(random, question, &mut group);
     }
     random.shuffle(&mut group);
-    let mut bytes = group.concat();
+    spoil_length(random, group.concat())
+}
+
+/// At times another length, mostly one that no group has.
+pub(crate) fn spoil_length(random: &mut Random, mut group: Vec<u8>) -> Vec<u8> {
     if random.chance(6) {
-        let whole = bytes.len();
+        let whole = group.len();
         let length = random.pick(&[0, 1, whole - 1, 13, 14, 256 + whole, 65_536 + whole]);
-        bytes.resize(length, 0);
+        group.resize(length, 0);
     }
-    bytes
+    group
 }
 
 fn spoil_entry(random: &mut Random, question: &Question, group: &mut [[u8; 2]]) {
@@ -175,22 +184,22 @@ fn spoil_entry(random: &mut Random, question: &Question, group: &mut [[u8; 2]]) 
         1 => group[place][1] = random.pick(&[roles, 8, 9, 255]),
         2 => group[place][0] = group[other][0],
         3 | 4 => group[place][1] = random.between(0, roles - 1),
-        5 => group[place] = random_entry(random, question),
-        6..=8 => shut_role(random, question, &mut group[place]),
+        5 => group[place] = random_entry(random, question.base),
+        6..=8 => shut_role(random, question.base, &mut group[place]),
         _ => weightless_entry(random, question, &mut group[place]),
     }
 }
 
-fn random_entry(random: &mut Random, question: &Question) -> [u8; 2] {
-    let user = random.below(question.base.users.len().max(1)) as u8;
-    [user, random.between(0, question.base.roles - 1)]
+pub(crate) fn random_entry(random: &mut Random, base: &Base) -> [u8; 2] {
+    let user = random.below(base.users.len().max(1)) as u8;
+    [user, random.between(0, base.roles - 1)]
 }
 
 /// Puts the user into a role that the user may not act in, if there is one.
-fn shut_role(random: &mut Random, question: &Question, entry: &mut [u8; 2]) {
-    let roles = 0..question.base.roles;
+pub(crate) fn shut_role(random: &mut Random, base: &Base, entry: &mut [u8; 2]) {
+    let roles = 0..base.roles;
     let shut: Vec<u8> = roles
-        .filter(|role| !question.base.may_act(entry[0], *role))
+        .filter(|role| !base.may_act(entry[0], *role))
         .collect();
     if !shut.is_empty() {
         entry[1] = random.pick(&shut);

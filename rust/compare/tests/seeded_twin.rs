@@ -1,8 +1,10 @@
 //! Compares the tuned twin with the library. Which smallest group a report
 //! shows is free.
 
+use compare::bounds::Changed;
 use compare::builder::BaseBuilder;
 use compare::capped::capped_base;
+use compare::changes::random_change;
 use compare::clashing::clashing_base;
 use compare::damage::*;
 use compare::lent::Lent;
@@ -67,6 +69,11 @@ fn compare_decision(base: &[u8], permission: u32, at: Context, group: &[u8]) {
     assert_eq!(u32::from(by_twin), by_library);
 }
 
+/// Asserts that the two give the same bound.
+fn compare_bound(base: &[u8], changed: &Changed) {
+    assert_eq!(changed.by_twin(base), changed.by_library(base));
+}
+
 /// Asserts that the two answer a call on a sheet alike and leave the same bytes.
 fn compare_sheets(base: &[u8], call: SheetCall, by_library: &mut Lent) {
     let mut by_twin = by_library.clone();
@@ -104,9 +111,12 @@ fn seeded_comparison() {
         for _ in 0..4 {
             let asked = random_question(&mut random, &records, &base);
             compare_decision(&image.bytes, asked.permission, asked.at, &asked.group);
+            let changed = random_change(&mut random, &base);
+            compare_bound(&image.bytes, &changed);
             let damaged = any_damage(&mut random, &image);
             compare_calls(&mut random, &damaged, at);
             compare_decision(&damaged, asked.permission, asked.at, &asked.group);
+            compare_bound(&damaged, &changed);
         }
     }
 }
@@ -120,6 +130,7 @@ fn loose_bytes() {
         compare_calls(&mut random, &base, at);
         let permission = any_permission(&mut random, 16);
         compare_decision(&base, permission, at, &[0, 0]);
+        compare_bound(&base, &Changed::new(permission, 1, &[[0, 0]]));
         let calls = [
             SheetCall::Open { permission },
             SheetCall::Sign { user: 0, role: 0 },

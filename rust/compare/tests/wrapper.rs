@@ -83,6 +83,25 @@ fn expect_conflicts(base: &[u8]) {
     }
 }
 
+/// The bound for weights in and out of range, whether the group comes as entries
+/// or as bytes: the library's own answer, and the model's.
+fn expect_bounds(base: &[u8], policy: u32, group: &[u8]) {
+    let pairs = group.chunks_exact(2);
+    let whole = pairs.remainder().is_empty();
+    let entries: Vec<Entry> = pairs.map(|pair| Entry::new(pair[0], pair[1])).collect();
+    for weight in [0, 1, 2, 3, 4, 5, 6, 256, 257, u32::MAX] {
+        let expected = answers::bound(base, policy, weight, group);
+        let by_model = model::bound(base, policy, weight, group);
+        let by_model = (u32::from(by_model.refusal), by_model.count);
+        assert_eq!((expected.refusal, expected.count), by_model);
+        let bound = release::bound_bytes(base, policy, weight, group);
+        assert_eq!(answer(&bound, |bound| *bound as usize), expected);
+        if whole {
+            assert_eq!(release::bound(base, policy, weight, &entries), bound);
+        }
+    }
+}
+
 /// A sheet in the wrapper's hands, and the bytes that the library's own calls
 /// get.
 struct SheetTwice {
@@ -177,6 +196,7 @@ fn expect_all(base: &[u8], asked: &Asked) {
     expect_decision(base, at, asked);
     expect_report(base, at);
     expect_conflicts(base);
+    expect_bounds(base, asked.permission, &asked.group);
     expect_sheets(base, at, asked);
 }
 

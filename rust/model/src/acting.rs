@@ -1,7 +1,9 @@
 //! Who may act in a role.
 
 use crate::base::Base;
+use crate::group::{entries, Entry};
 use crate::reading::Reading;
+use crate::refusal::{refuse_if, Refusal};
 use crate::roles::Role;
 use crate::seniority::Seniority;
 
@@ -23,6 +25,22 @@ impl<'a> Acting<'a> {
             seniority,
             reading,
         }
+    }
+
+    /// The entries of a group, or the first of refusals 12 to 15 that applies,
+    /// each over all entries before the next.
+    pub fn entries(&self, group: &[u8]) -> Result<Vec<Entry>, Refusal> {
+        let group = entries(group).ok_or(Refusal::GroupLength)?;
+        let all = |good: &dyn Fn(&Entry) -> bool| group.iter().all(good);
+        refuse_if(!all(&|entry| self.is_there(entry)), Refusal::NoUserOrRole)?;
+        refuse_if(has_user_twice(&group), Refusal::UserTwice)?;
+        let may_act = |entry: &Entry| self.may_act(entry.user, entry.role);
+        refuse_if(!all(&may_act), Refusal::Membership)?;
+        Ok(group)
+    }
+
+    fn is_there(&self, entry: &Entry) -> bool {
+        usize::from(entry.user) < self.base.users.len() && entry.role < self.base.roles
     }
 
     /// Whether the user may act in the role: both are there, and the user
@@ -60,6 +78,12 @@ impl Base {
     pub fn may_act(&self, user: u8, role: Role) -> bool {
         Acting::by(Reading::Paper, self).may_act(user, role)
     }
+}
+
+fn has_user_twice(group: &[Entry]) -> bool {
+    let mut users: Vec<u8> = group.iter().map(|entry| entry.user).collect();
+    users.sort();
+    users.windows(2).any(|pair| pair[0] == pair[1])
 }
 
 #[cfg(test)]
@@ -165,6 +189,23 @@ mod tests {
                 assert_eq!(acted_in(&base, user), below.collect::<Vec<_>>());
             }
         }
+    }
+
+    #[test]
+    fn a_groups_entries_or_the_first_of_12_to_15() {
+        let shop = small_shop();
+        let entries = |group: &[u8]| {
+            let entries = Acting::by(Reading::Paper, &shop).entries(group);
+            entries.map(|entries| entries.into_iter().flat_map(Entry::bytes).collect())
+        };
+        let sound: Vec<u8> = vec![2, 2, 0, 1, 1, 2];
+        assert_eq!(entries(&sound), Ok(sound));
+        let faults = [1, 0, 0, 0, 0, 0, 9, 9, 9];
+        assert_eq!(entries(&faults), Err(Refusal::GroupLength));
+        assert_eq!(entries(&faults[..8]), Err(Refusal::NoUserOrRole));
+        assert_eq!(entries(&faults[..6]), Err(Refusal::UserTwice));
+        assert_eq!(entries(&faults[..4]), Err(Refusal::Membership));
+        assert_eq!(entries(&faults[2..4]), Ok(vec![0, 0]));
     }
 
     #[test]

@@ -3,7 +3,7 @@
 use crate::acting::Acting;
 use crate::base::Base;
 use crate::context::Context;
-use crate::group::{entries, Attributes, Entry};
+use crate::group::{Attributes, Entry};
 use crate::reading::Reading;
 use crate::refusal::{number, refuse_if, Refusal};
 use crate::roles::Role;
@@ -57,12 +57,9 @@ impl<'a> Question<'a> {
 
     /// Refusals 12 to 17, each over all entries before the next.
     pub fn ask(&self, group: &[u8]) -> Result<(), Refusal> {
-        let group = entries(group).ok_or(Refusal::GroupLength)?;
-        let any = |bad: &dyn Fn(&Entry) -> bool| group.iter().any(bad);
-        refuse_if(any(&|entry| !self.is_there(entry)), Refusal::NoUserOrRole)?;
-        refuse_if(has_user_twice(&group), Refusal::UserTwice)?;
-        refuse_if(any(&|entry| !self.is_eligible(entry)), Refusal::Membership)?;
-        refuse_if(any(&|entry| self.weight_of(entry) == 0), Refusal::NoWeight)?;
+        let group = self.acting.entries(group)?;
+        let without_weight = group.iter().any(|entry| self.weight_of(entry) == 0);
+        refuse_if(without_weight, Refusal::NoWeight)?;
         refuse_if(
             !self.condition_holds(self.attributes(&group)),
             Refusal::Condition,
@@ -71,10 +68,6 @@ impl<'a> Question<'a> {
 
     pub fn grants(&self, group: &[u8]) -> bool {
         self.ask(group).is_ok()
-    }
-
-    fn is_there(&self, entry: &Entry) -> bool {
-        usize::from(entry.user) < self.base.users.len() && entry.role < self.base.roles
     }
 
     /// Whether the entry's user may act in its role for this permission.
@@ -139,12 +132,6 @@ impl Base {
         let number = u8::try_from(number).ok()?;
         (usize::from(number) < self.permissions.len()).then_some(number)
     }
-}
-
-fn has_user_twice(group: &[Entry]) -> bool {
-    let mut users: Vec<u8> = group.iter().map(|entry| entry.user).collect();
-    users.sort();
-    users.windows(2).any(|pair| pair[0] == pair[1])
 }
 
 #[cfg(test)]
@@ -330,6 +317,26 @@ mod tests {
         shop.permissions.push(shop.permissions[0].clone());
         shop.group_clauses[0].permission = 1;
         assert_eq!(answer(&shop, &[0, 0, 2, 2]), 17);
+    }
+
+    #[test]
+    fn the_sum_of_any_bytes_is_attribute_1_of_their_entries() {
+        let mut draws = Draws::new(5);
+        for _ in 0..500 {
+            let base = random_base(&mut draws, 6);
+            let situation = Situation::new(&base, at_minute(600), Reading::Paper);
+            let question = Question::new(&base, 0, at_minute(600), Reading::Paper);
+            let question = question.expect("permission 0 is there");
+            let group: Vec<Entry> = (0..draws.below(9))
+                .map(|_| Entry {
+                    user: draws.byte(0, 255),
+                    role: draws.byte(0, base.roles - 1),
+                })
+                .collect();
+            let bytes: Vec<u8> = group.iter().flat_map(|entry| entry.bytes()).collect();
+            let sum = question.attributes(&group).total_weight;
+            assert_eq!(situation.sum(0, &bytes), sum);
+        }
     }
 
     #[test]

@@ -20,16 +20,18 @@ impl Entry {
     }
 }
 
+/// The entries in any bytes, however many. A last byte alone is none.
+pub fn pairs(bytes: &[u8]) -> impl Iterator<Item = Entry> + '_ {
+    bytes.chunks_exact(2).map(|pair| Entry {
+        user: pair[0],
+        role: pair[1],
+    })
+}
+
 /// The entries of a group, or nothing if its length is 0, odd or too large.
 pub fn entries(group: &[u8]) -> Option<Vec<Entry>> {
-    let pairs = group.chunks_exact(2);
-    let whole = pairs.remainder().is_empty();
-    let entries: Vec<Entry> = pairs
-        .map(|pair| Entry {
-            user: pair[0],
-            role: pair[1],
-        })
-        .collect();
+    let entries: Vec<Entry> = pairs(group).collect();
+    let whole = group.len() == 2 * entries.len();
     (whole && (1..=MOST_ENTRIES).contains(&entries.len())).then_some(entries)
 }
 
@@ -128,6 +130,15 @@ mod tests {
         let read = entries(&[7, 1, 9, 0]).unwrap();
         assert_eq!(read[0], Entry { user: 7, role: 1 });
         assert_eq!(read[1].bytes(), [9, 0]);
+    }
+
+    #[test]
+    fn any_bytes_have_entries() {
+        let count = |length| pairs(&vec![9; length]).count();
+        assert_eq!(
+            [0, 1, 2, 3, 13, 14, 255].map(count),
+            [0, 0, 1, 1, 6, 7, 127]
+        );
     }
 
     #[test]

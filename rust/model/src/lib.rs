@@ -7,6 +7,7 @@
 mod acting;
 mod answer;
 mod base;
+mod bound;
 mod check;
 mod conflicts;
 mod context;
@@ -34,6 +35,7 @@ mod weight;
 pub use acting::Acting;
 pub use answer::Answer;
 pub use base::Base;
+pub use bound::{bound, bound_by, Change};
 pub use check::check;
 pub use conflicts::{conflict_list, conflicts, conflicts_by, Conflict};
 pub use context::Context;

@@ -1,8 +1,9 @@
 //! How the rules are read.
 
 /// The paper's reading with the requests', or a wrong one: those that the paper
-/// warns of, and some of the conflict list, of sheets and of who may act as
-/// what. A test can take a wrong one to show that the comparison notices it.
+/// warns of, and some of the conflict list, of sheets, of who may act as what
+/// and of what a changed weight can shift. A test can take a wrong one to show
+/// that the comparison notices it.
 #[derive(Clone, Copy, Debug, Default, PartialEq, Eq)]
 pub enum Reading {
     #[default]
@@ -50,6 +51,25 @@ pub enum Reading {
     SeniorsWeight,
     /// A conflict of kind 3 is a user who may act in both roles.
     ActedInAsHeld,
+    /// A changed weight reaches the juniors of the policy's role, in place of
+    /// its seniors.
+    JuniorsReached,
+    /// A changed weight reaches the seniors, but not the policy's role.
+    SeniorsAlone,
+    /// A changed weight reaches the seniors that an H record names, not those
+    /// behind them.
+    DirectSeniors,
+    /// A senior counts once for each chain that leads from it.
+    SeniorPerChain,
+    /// A changed weight reaches the seniors only if the policy is of type 1.
+    TypeRegarded,
+    /// A changed weight reaches nobody if an earlier policy is of the same role
+    /// and permission.
+    FirstAlone,
+    /// A bound is the difference of the weights, for however many entries.
+    EntriesForgotten,
+    /// A bound is refused by 21 before the group is looked at.
+    ChangeFirst,
 }
 
 impl Reading {
@@ -87,6 +107,18 @@ impl Reading {
         Reading::SeniorsToo,
         Reading::SeniorInSet,
         Reading::SeniorsWeight,
+    ];
+
+    /// Wrong readings that only the bound shows.
+    pub const WRONG_OF_BOUNDS: [Reading; 8] = [
+        Reading::JuniorsReached,
+        Reading::SeniorsAlone,
+        Reading::DirectSeniors,
+        Reading::SeniorPerChain,
+        Reading::TypeRegarded,
+        Reading::FirstAlone,
+        Reading::EntriesForgotten,
+        Reading::ChangeFirst,
     ];
 }
 

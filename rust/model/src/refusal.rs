@@ -23,6 +23,7 @@ pub enum Refusal {
     ConflictBuffer = 18,
     ReportBuffer = 19,
     SheetFull = 20,
+    NoPolicyOrWeight = 21,
 }
 
 impl Refusal {

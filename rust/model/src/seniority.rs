@@ -26,8 +26,10 @@ impl Seniority {
         Seniority(leads)
     }
 
+    /// No role that isn't there is senior or junior.
     pub fn is_senior(&self, senior: Role, junior: Role) -> bool {
-        self.0[usize::from(senior)][usize::from(junior)]
+        let below = self.0.get(usize::from(senior));
+        below.is_some_and(|row| row.get(usize::from(junior)) == Some(&true))
     }
 }
 
@@ -74,6 +76,16 @@ mod tests {
     #[test]
     fn without_records_nobody_is_senior() {
         assert_eq!(pairs(&base(8, &[])), []);
+    }
+
+    #[test]
+    fn a_role_that_is_not_there_is_neither_senior_nor_junior() {
+        let records: Vec<Edge> = (0..7).map(|role| edge(role, role + 1)).collect();
+        let seniority = Seniority::of(&base(8, &records));
+        for (absent, role) in (8..=255).flat_map(|absent| [(absent, 0), (absent, 7)]) {
+            assert!(!seniority.is_senior(absent, role) && !seniority.is_senior(role, absent));
+            assert!(!seniority.is_senior(absent, absent));
+        }
     }
 
     #[test]

@@ -2,6 +2,7 @@
 
 use crate::base::Base;
 use crate::context::Context;
+use crate::group::pairs;
 use crate::reading::Reading;
 use crate::records::Policy;
 use crate::roles::Role;
@@ -41,6 +42,13 @@ impl<'a> Situation<'a> {
             .map(|junior| self.times(role, junior) * self.inh(junior, permission))
             .sum();
         self.own(role, permission) + inherited
+    }
+
+    /// The sum of the roles' weights, attribute 1, for any bytes as a group. A
+    /// role that isn't there has no policy and no junior, and so no weight.
+    pub fn sum(&self, permission: u8, group: &[u8]) -> u32 {
+        let weights = pairs(group).map(|entry| self.weight(entry.role, permission));
+        weights.sum()
     }
 
     /// How often a role inherits from another: once if it is senior to it.
@@ -170,6 +178,32 @@ mod tests {
         assert_eq!(weights(&diamond(), 0), [3, 2, 2, 2]);
         let own_twice = weights_by(Reading::OwnTwice, &diamond(), 0);
         assert_eq!(own_twice, [4, 2, 2, 4]);
+    }
+
+    /// The sum for permission 0 of these roles, each acted in by user 9, who
+    /// isn't there.
+    fn sum(base: &Base, minute: u32, roles: &[Role]) -> u32 {
+        let group: Vec<u8> = roles.iter().flat_map(|role| [9, *role]).collect();
+        Situation::new(base, at_minute(minute), Reading::Paper).sum(0, &group)
+    }
+
+    #[test]
+    fn the_sum_is_over_the_entries() {
+        let shop = small_shop();
+        assert_eq!(sum(&shop, 600, &[0, 1, 2, 2]), 9);
+        assert_eq!(sum(&shop, 480, &[0, 1, 2, 2]), 5);
+        assert_eq!(sum(&shop, 600, &[0; 20]), 100);
+        assert_eq!(sum(&shop, 600, &[]), 0);
+    }
+
+    #[test]
+    fn a_last_byte_and_roles_that_are_not_there_have_no_weight() {
+        let shop = small_shop();
+        assert_eq!(sum(&shop, 600, &[3, 7, 8, 255, 1]), 2);
+        let situation = Situation::new(&shop, at_minute(600), Reading::Paper);
+        let of = |group: &[u8]| situation.sum(0, group);
+        assert_eq!([of(&[0]), of(&[0, 0, 0]), of(&[0, 0, 1, 1])], [0, 5, 7]);
+        assert_eq!([0, 1, 255].map(|p| situation.sum(p, &[0, 0])), [5, 0, 0]);
     }
 
     #[test]

@@ -104,6 +104,24 @@ pub fn conflicts(base: &[u8], out: &mut [u8]) -> Answer {
     Answer::from_number(library::conflicts(base, out))
 }
 
+/// How far a new weight of one policy can shift a group's sum of weights: 0 and
+/// the bound, or the first of refusals 1 to 9, 12 to 15 and 21 that applies and
+/// 0.
+///
+/// ```
+/// use release::answers::{self, Answer};
+/// use release::example::SMALL_SHOP;
+///
+/// let done = Answer { refusal: 0, count: 8 };
+/// assert_eq!(answers::bound(&SMALL_SHOP, 2, 5, &[0, 0, 2, 2]), done);
+///
+/// let refused = Answer { refusal: 21, count: 0 };
+/// assert_eq!(answers::bound(&SMALL_SHOP, 256, 5, &[0, 0, 2, 2]), refused);
+/// ```
+pub fn bound(base: &[u8], policy: u32, weight: u32, group: &[u8]) -> Answer {
+    Answer::from_number(library::bound(base, policy, weight, group))
+}
+
 /// Opens a sheet for a permission: 0, or the first of refusals 1 to 10 that
 /// applies. All its bytes are written, whatever they held: the unsigned sheet
 /// for the permission or, if refused, for permission 255. No other refused call

@@ -13,6 +13,7 @@
 //! | [`decide`], [`decide_bytes`] | may this group release this permission? |
 //! | [`report`], [`report_into`] | which smallest group can release each permission? |
 //! | [`conflicts`], [`conflicts_into`], [`conflict_count`] | which records of the base conflict? |
+//! | [`bound`], [`bound_bytes`] | how far can a policy's new weight shift this group's sum of weights? |
 //! | [`Sheet::open`], [`Sheet::sign`], [`Sheet::ask`] | may those who have signed so far release this permission? |
 //!
 //! The answer is the result, or the first [`Refusal`] that applies. A refused
@@ -41,6 +42,7 @@
 #![deny(unsafe_code)]
 
 pub mod answers;
+mod bound;
 mod conflicts;
 mod context;
 mod decision;
@@ -51,6 +53,7 @@ mod refusal;
 mod report;
 mod sheet;
 
+pub use bound::{bound, bound_bytes};
 pub use conflicts::{conflict_count, conflicts, conflicts_into, Conflict, CONFLICT_BYTES};
 pub use context::Context;
 pub use decision::{decide, decide_bytes, Entry};

@@ -36,6 +36,15 @@ mod foreign {
             out_len: usize,
         ) -> u64;
 
+        pub fn release_bound(
+            base: *const u8,
+            base_len: usize,
+            policy: u32,
+            weight: u32,
+            group: *const u8,
+            group_len: usize,
+        ) -> u64;
+
         pub fn release_sheet_open(
             base: *const u8,
             base_len: usize,
@@ -109,6 +118,22 @@ pub fn conflicts(base: &[u8], out: &mut [u8]) -> u64 {
     // overlap. The library only reads the first and writes the second within
     // its length, and only during the call.
     unsafe { foreign::release_conflicts(base.as_ptr(), base.len(), out.as_mut_ptr(), out.len()) }
+}
+
+/// The answer as refusal + 256 * bound.
+pub fn bound(base: &[u8], policy: u32, weight: u32, group: &[u8]) -> u64 {
+    // SAFETY: the pointers and lengths are those of two slices, which the
+    // library only reads, and only during the call.
+    unsafe {
+        foreign::release_bound(
+            base.as_ptr(),
+            base.len(),
+            policy,
+            weight,
+            group.as_ptr(),
+            group.len(),
+        )
+    }
 }
 
 pub fn sheet_open(base: &[u8], permission: u32, sheet: &mut [u8; SHEET_BYTES]) -> u32 {

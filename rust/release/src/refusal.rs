@@ -54,11 +54,13 @@ pub enum Refusal {
     ReportBuffer = 19,
     /// 20: the sheet already holds six entries.
     SheetFull = 20,
+    /// 21: the policy isn't in A, or its new weight isn't 1 to 5.
+    NoPolicyOrWeight = 21,
 }
 
 impl Refusal {
     /// Every refusal, in checking order.
-    pub const ALL: [Refusal; 20] = [
+    pub const ALL: [Refusal; 21] = [
         Refusal::Length,
         Refusal::Letters,
         Refusal::Trailer,
@@ -79,9 +81,10 @@ impl Refusal {
         Refusal::ConflictBuffer,
         Refusal::ReportBuffer,
         Refusal::SheetFull,
+        Refusal::NoPolicyOrWeight,
     ];
 
-    /// The refusal's number, 1 to 20.
+    /// The refusal's number, 1 to 21.
     ///
     /// ```
     /// assert_eq!(release::Refusal::UserTwice.number(), 14);
@@ -151,6 +154,9 @@ impl Refusal {
                 "the buffer is shorter than 13 times the number of permissions"
             }
             Refusal::SheetFull => "the sheet already holds six entries",
+            Refusal::NoPolicyOrWeight => {
+                "the base has no policy of that number, or the new weight isn't 1 to 5"
+            }
         }
     }
 }
@@ -173,7 +179,7 @@ impl Error for Refusal {}
 pub(crate) fn result_of(answer: u32) -> Result<(), Refusal> {
     match answer {
         0 => Ok(()),
-        _ => Err(Refusal::from_number(answer).expect("the library answers 0 to 20")),
+        _ => Err(Refusal::from_number(answer).expect("the library answers 0 to 21")),
     }
 }
 
@@ -189,7 +195,7 @@ mod tests {
             assert_eq!(result_of(number), Err(refusal));
         }
         assert_eq!(result_of(0), Ok(()));
-        assert_eq!(Refusal::from_number(21), None);
+        assert_eq!(Refusal::from_number(22), None);
     }
 
     #[test]

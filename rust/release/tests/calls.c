@@ -135,6 +135,41 @@ static void conflicts(void) {
     expect("18's count", 3, release_answer_count(answer));
 }
 
+static uint64_t bound(uint32_t policy, uint32_t weight, const uint8_t *group, size_t length) {
+    return release_bound(shop, SHOP, policy, weight, group, length);
+}
+
+/* The answer is refusal + 256 * bound, and a refusal carries 0. */
+static void bounds(void) {
+    const uint8_t all[] = {0, 0, 1, 1, 2, 2, 3, 2};
+    const uint8_t unknown[] = {0, 0, 4, 2};
+    const uint8_t twice[] = {0, 0, 0, 1};
+    const uint8_t as_senior[] = {0, 0, 2, 1};
+    const uint8_t as_junior[] = {0, 1, 1, 2};
+    uint64_t answer = bound(2, 5, all, sizeof all);
+    expect("bound", RELEASE_DONE, release_answer_refusal(answer));
+    expect("4 more for each of four", 16, release_answer_count(answer));
+    expect("2 more for the manager", 256 * 2, bound(0, 5, all, sizeof all));
+    expect("2 less for the manager", 256 * 2, bound(0, 1, all, sizeof all));
+    expect("3 more for manager and buyer", 256 * 6, bound(1, 4, all, sizeof all));
+    expect("the weight as it is", 0, bound(0, 3, all, sizeof all));
+    expect("the manager as a buyer", 256 * 4, bound(1, 5, as_junior, 4));
+    expect("1", RELEASE_REFUSAL_LENGTH,
+           release_bound(shop, RELEASE_SHORTEST_BASE - 1, 0, 5, all, sizeof all));
+    expect("2", RELEASE_REFUSAL_LETTERS, release_bound(shop, SHOP - 1, 0, 5, all, sizeof all));
+    expect("12", RELEASE_REFUSAL_GROUP_LENGTH, bound(0, 5, all, 3));
+    expect("13", RELEASE_REFUSAL_NO_USER_OR_ROLE, bound(0, 5, unknown, 4));
+    expect("14", RELEASE_REFUSAL_USER_TWICE, bound(0, 5, twice, 4));
+    expect("15", RELEASE_REFUSAL_MEMBERSHIP, bound(0, 5, as_senior, 4));
+    expect("15 before 21", RELEASE_REFUSAL_MEMBERSHIP, bound(3, 6, as_senior, 4));
+    expect("21", RELEASE_REFUSAL_NO_POLICY_OR_WEIGHT, bound(3, 5, all, sizeof all));
+    expect("21", RELEASE_REFUSAL_NO_POLICY_OR_WEIGHT, bound(256, 5, all, sizeof all));
+    expect("21", RELEASE_REFUSAL_NO_POLICY_OR_WEIGHT, bound(0, 0, all, sizeof all));
+    expect("21", RELEASE_REFUSAL_NO_POLICY_OR_WEIGHT, bound(0, 6, all, sizeof all));
+    expect("21", RELEASE_REFUSAL_NO_POLICY_OR_WEIGHT, bound(0, 257, all, sizeof all));
+    expect("the base's first bytes as a group", 256 * 8, bound(2, 5, shop, 4));
+}
+
 /* A sheet's bytes between guards. */
 struct guarded {
     uint8_t before[8];
@@ -258,11 +293,13 @@ static void nulls(void) {
     expect("no base", 1, release_report(NULL, 0, 480, 0, 0, NULL, 0));
     expect("no base", 1, release_conflicts(NULL, 0, out, sizeof out));
     expect("no base", 1, release_conflicts(NULL, 0, NULL, 0));
+    expect("no base", 1, release_bound(NULL, 0, 0, 5, NULL, 0));
     expect("no base", 1, release_sheet_sign(NULL, 0, 0, 0, sheet));
     expect("no base", 1, release_sheet_ask(NULL, 0, 480, 0, 0, sheet));
     expect("no base", 1, release_sheet_open(NULL, 0, 0, sheet));
     expect("permission 255", 255, sheet[RELEASE_SHEET_PERMISSION]);
     expect("no group", 12, release_decide(shop, SHOP, 0, 480, 0, 0, NULL, 0));
+    expect("no group", 12, release_bound(shop, SHOP, 0, 5, NULL, 0));
     expect("no buffer", 19, release_report(shop, SHOP, 480, 0, 0, NULL, 0));
     expect("no permission, no buffer", 0,
            release_report(least, sizeof least, 480, 0, 0, NULL, 0));
@@ -287,6 +324,7 @@ static void unaligned(void) {
                release_report(base + at, SHOP, 480, 0, 0, out + at, RELEASE_PERMISSION_BYTES));
         expect("approvers", 2, out[at]);
         expect("conflicts", 0, release_conflicts(base + at, SHOP, out + at, 3));
+        expect("bound", 256 * 8, release_bound(base + at, SHOP, 1, 5, group + at, 4));
         expect("open", 0, release_sheet_open(base + at, SHOP, 0, sheet + at));
         expect("sign", 0, release_sheet_sign(base + at, SHOP, 0, 0, sheet + at));
         expect("sign", 0, release_sheet_sign(base + at, SHOP, 1, 1, sheet + at));
@@ -304,6 +342,7 @@ int main(void) {
     decisions();
     reports();
     conflicts();
+    bounds();
     openings();
     signings();
     full_sheets();

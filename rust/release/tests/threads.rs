@@ -3,7 +3,9 @@
 use std::thread::{self, Builder};
 
 use release::example::SMALL_SHOP;
-use release::{check, conflicts_into, decide_bytes, report, Context, Entry, Refusal, Sheet};
+use release::{
+    bound_bytes, check, conflicts_into, decide_bytes, report, Context, Entry, Refusal, Sheet,
+};
 
 const EARLY: Context = Context {
     minute: 480,
@@ -60,6 +62,8 @@ fn every_other_call_in_32_kib() {
     assert_eq!(decided, Err(Refusal::Condition));
     let listed = within(LITTLE, || conflicts_into(&SMALL_SHOP, &mut [0; 9]));
     assert_eq!(listed, Ok(0));
+    let shifted = within(LITTLE, || bound_bytes(&SMALL_SHOP, 2, 5, &[0, 0, 1, 1]));
+    assert_eq!(shifted, Ok(8));
     let sheet = within(LITTLE, || signed_sheet(&out_of_reach())).expect("it is signed");
     let asked = within(LITTLE, move || sheet.ask(&out_of_reach(), EARLY));
     assert_eq!(asked, Err(Refusal::Condition));
@@ -73,6 +77,21 @@ fn many_at_once() {
                 let (base, count) = [(SMALL_SHOP, 1), (out_of_reach(), 0)][turn % 2];
                 for _ in 0..200 {
                     assert_eq!(releasable(&base), Ok(count));
+                }
+            });
+        }
+    });
+}
+
+#[test]
+fn many_bounds_at_once() {
+    thread::scope(|scope| {
+        for policy in [0, 1, 2, 3, 0, 1, 2, 3] {
+            scope.spawn(move || {
+                let expected = [Ok(2), Ok(8), Ok(12), Err(Refusal::NoPolicyOrWeight)];
+                for _ in 0..200 {
+                    let found = bound_bytes(&SMALL_SHOP, policy, 5, &[0, 0, 1, 1, 2, 2]);
+                    assert_eq!(found, expected[policy as usize]);
                 }
             });
         }

@@ -1,4 +1,5 @@
-//! The decision on a group: refusals 12 to 17.
+//! The decision on a group: refusals 12 to 15, which a bound gives too, 16 and
+//! 17.
 
 use crate::acting::{acting_roles, holds_role};
 use crate::base::Base;
@@ -6,23 +7,32 @@ use crate::conditions::holds;
 use crate::weights::{role_weights, Setting, Weights};
 use crate::MOST;
 
+/// The entries, or the first of refusals 12 to 15 that applies.
+pub fn members<'a>(base: &Base, juniors: &[u8; 8], group: &'a [u8]) -> Result<&'a [[u8; 2]], u8> {
+    let (entries, odd) = group.as_chunks::<2>();
+    if entries.is_empty() || !odd.is_empty() || MOST < entries.len() {
+        return Err(12);
+    }
+    if entries.iter().any(|entry| unknown(base, entry)) {
+        return Err(13);
+    }
+    if (1..entries.len()).any(|i| stands_before(entries, i)) {
+        return Err(14);
+    }
+    let may_act = |entry: &[u8; 2]| may_act(base, entry, || *juniors);
+    if !entries.iter().all(may_act) {
+        return Err(15);
+    }
+    Ok(entries)
+}
+
 /// 0 where the group is granted, else the first of refusals 12 to 17 that
 /// applies.
 pub fn group_refusal(base: &Base, permission: u8, setting: &Setting, group: &[u8]) -> u8 {
-    let (entries, odd) = group.as_chunks::<2>();
-    if entries.is_empty() || !odd.is_empty() || MOST < entries.len() {
-        return 12;
-    }
-    if entries.iter().any(|entry| unknown(base, entry)) {
-        return 13;
-    }
-    if (1..entries.len()).any(|i| stands_before(entries, i)) {
-        return 14;
-    }
-    let may_act = |entry: &[u8; 2]| may_act(base, entry, || setting.juniors);
-    if !entries.iter().all(may_act) {
-        return 15;
-    }
+    let entries = match members(base, &setting.juniors, group) {
+        Ok(entries) => entries,
+        Err(refusal) => return refusal,
+    };
     let w = role_weights(base, setting, permission);
     if entries.iter().any(|entry| weight_of(w, entry) == 0) {
         return 16;

@@ -6,6 +6,7 @@ mod allowed;
 mod asked;
 mod back;
 mod base;
+mod bound;
 mod check;
 mod conditions;
 pub mod counts;
@@ -25,6 +26,7 @@ pub mod worst;
 use base::Base;
 use model::{Answer, Context};
 
+pub use bound::bound;
 pub use sheet::{sheet_ask, sheet_open, sheet_sign};
 
 /// The identity codes of roles 0 to 7.
@@ -193,6 +195,62 @@ mod tests {
             assert_eq!(out[4 * RECORD], 7);
         }
         assert!(seen.iter().all(|&times| times > 0), "{seen:?}");
+    }
+
+    /// Mostly a number below the end, at times one at it or far above.
+    fn number(draws: &mut Draws, first: u32, end: u32) -> u32 {
+        match draws.below(12) {
+            0 => [0, end, 255, 256 + first, u32::MAX][draws.below(5)],
+            _ => first + draws.below((end - first).max(1) as usize) as u32,
+        }
+    }
+
+    /// Users in a row, each in a role held; at times one byte is another, or the
+    /// last one is missing.
+    fn random_group(draws: &mut Draws, users: &[u8]) -> Vec<u8> {
+        let first = draws.below(users.len().max(1));
+        let count = draws.below(8);
+        let chosen = users.iter().enumerate().skip(first).take(count);
+        let mut group: Vec<u8> = chosen
+            .flat_map(|(user, roles)| [user as u8, roles.trailing_zeros() as u8])
+            .collect();
+        match draws.below(4) {
+            0 if !group.is_empty() => {
+                let place = draws.below(group.len());
+                group[place] = draws.byte(0, 24);
+            }
+            1 if draws.below(4) == 0 => _ = group.pop(),
+            _ => (),
+        }
+        group
+    }
+
+    #[test]
+    fn a_bound_is_the_models() {
+        let mut draws = Draws(8);
+        let (mut refusals, mut bounds) = ([0; 22], [0; 25]);
+        for _ in 0..2_000 {
+            let mut plan = random_plan(&mut draws);
+            let base = plan.bytes();
+            for _ in 0..10 {
+                let policy = number(&mut draws, 0, plan.policies.len() as u32);
+                let weight = number(&mut draws, 1, 6);
+                let group = random_group(&mut draws, &plan.users);
+                let answer = bound(&base, policy, weight, &group);
+                assert_eq!(answer, model::bound(&base, policy, weight, &group));
+                refusals[usize::from(answer.refusal)] += 1;
+                bounds[answer.count as usize] += 1;
+            }
+            plan.hierarchy.push((3, 3));
+            let answer = bound(&plan.bytes(), 0, 1, &[]);
+            assert_eq!((answer.refusal, answer.count), (4, 0));
+        }
+        for refusal in [0, 12, 13, 14, 15, 21] {
+            assert!(refusals[refusal] > 0, "{refusals:?}");
+        }
+        for bound in [0, 1, 2, 3, 4, 6, 8, 12, 16] {
+            assert!(bounds[bound] > 0, "{bounds:?}");
+        }
     }
 
     #[test]

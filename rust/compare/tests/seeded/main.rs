@@ -1,6 +1,8 @@
-//! Compares the calls on many random bases, sound and damaged, and shows
-//! that each wrong reading of the rules would be noticed.
+//! Compares the calls on many random bases, sound and damaged, shows that each
+//! wrong reading of the rules would be noticed, and tries what is said of a
+//! changed weight.
 
+mod bounds;
 mod checks;
 mod conflicts;
 mod decisions;
@@ -8,6 +10,7 @@ mod readings;
 mod reports;
 mod seen;
 mod sheets;
+mod shifts;
 
 use std::time::{Duration, Instant};
 
@@ -25,6 +28,7 @@ fn seeded_comparison() {
     reports::compare(&mut seen);
     conflicts::compare(&mut seen);
     sheets::compare(&mut seen);
+    bounds::compare(&mut seen);
     let taken = start.elapsed();
     seen.print(taken);
     seen.expect_all();

@@ -8,7 +8,7 @@ use compare::shown::{numbers, RECORD};
 use compare::{library_context, library_decision};
 use model::{Reading, Sheet};
 
-use crate::{conflicts, decisions, reports, sheets};
+use crate::{bounds, conflicts, decisions, reports, sheets};
 
 /// In how many cases the library's decision isn't the model's by a reading.
 fn decisions_that_differ(reading: Reading) -> usize {
@@ -73,6 +73,16 @@ fn sheets_that_differ(reading: Reading) -> [usize; 3] {
     found
 }
 
+/// In how many cases the library's bound isn't the model's by a reading.
+fn bounds_that_differ(reading: Reading) -> usize {
+    let mut found = 0;
+    bounds::sound_bases(500, |base, changed| {
+        let by_model = changed.by_model(reading, base);
+        found += usize::from(changed.by_library(base) != by_model);
+    });
+    found
+}
+
 /// The calls in which a reading shows.
 fn shows(reading: Reading) -> &'static [&'static str] {
     match reading {
@@ -91,9 +101,17 @@ fn shows(reading: Reading) -> &'static [&'static str] {
         Reading::PermissionAtSigning | Reading::FullFirst | Reading::AnotherRole => &["signings"],
         Reading::OverSixAsNone => &["signings", "askings"],
         Reading::HeldAlone | Reading::DirectJuniors | Reading::SeniorsToo => {
-            &["decisions", "reports", "signings", "askings"]
+            &["decisions", "reports", "signings", "askings", "bounds"]
         }
         Reading::SeniorInSet | Reading::SeniorsWeight => &["decisions", "reports", "askings"],
+        Reading::JuniorsReached
+        | Reading::SeniorsAlone
+        | Reading::DirectSeniors
+        | Reading::SeniorPerChain
+        | Reading::TypeRegarded
+        | Reading::FirstAlone
+        | Reading::EntriesForgotten
+        | Reading::ChangeFirst => &["bounds"],
     }
 }
 
@@ -106,6 +124,7 @@ fn expect(reading: Reading) {
         ("openings", openings),
         ("signings", signings),
         ("askings", askings),
+        ("bounds", bounds_that_differ(reading)),
     ];
     println!("{reading:?}: {found:?}");
     let found = found.iter().filter(|(_, count)| *count > 0);
@@ -124,4 +143,5 @@ fn every_wrong_reading_is_noticed() {
     Reading::WRONG_IN_LISTS.into_iter().for_each(expect);
     Reading::WRONG_ON_SHEETS.into_iter().for_each(expect);
     Reading::WRONG_OF_ACTING.into_iter().for_each(expect);
+    Reading::WRONG_OF_BOUNDS.into_iter().for_each(expect);
 }

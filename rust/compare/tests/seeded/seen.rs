@@ -1,5 +1,5 @@
-//! How often each answer, number of approvers, kind of conflict and number of
-//! signatures was seen, and how far below their roles users acted.
+//! How often each answer, number of approvers, kind of conflict, number of
+//! signatures and bound was seen, and how far below their roles users acted.
 
 use std::io::Write;
 use std::time::Duration;
@@ -17,9 +17,10 @@ pub enum Call {
     Open,
     Sign,
     Ask,
+    Bound,
 }
 
-const CALLS: usize = 7;
+const CALLS: usize = 8;
 
 const NAMES: [&str; CALLS] = [
     "check",
@@ -29,6 +30,7 @@ const NAMES: [&str; CALLS] = [
     "open",
     "sign",
     "ask",
+    "bound",
 ];
 
 /// The answers that each call can give.
@@ -40,6 +42,7 @@ const ANSWERS: [&[u8]; CALLS] = [
     &[0, 1, 2, 3, 4, 5, 6, 7, 8, 9, 10],
     &[0, 1, 2, 3, 4, 5, 6, 7, 8, 9, 13, 14, 15, 20],
     &[0, 1, 2, 3, 4, 5, 6, 7, 8, 9, 10, 11, 12, 13, 14, 15, 16, 17],
+    &[0, 1, 2, 3, 4, 5, 6, 7, 8, 9, 12, 13, 14, 15, 21],
 ];
 
 /// Those that a sheet can get that openings and signings made: no user signs
@@ -52,18 +55,23 @@ const KINDS: &[u8] = &[1, 2, 3];
 /// A chain of H records from a role held has at most so many, and 0 is none.
 const RECORDS: &[u8] = &[0, 1, 2, 3, 4, 5, 6, 7];
 
+/// Up to six entries times a difference of up to 4.
+const BOUNDS: &[u8] = &[0, 1, 2, 3, 4, 5, 6, 8, 9, 10, 12, 15, 16, 18, 20, 24];
+
 const GAINS: [(Gain, &str); 3] = [
     (Gain::Nothing, "the same k by holding alone"),
     (Gain::Fewer, "fewer by acting below a role held"),
     (Gain::Group, "a group only by acting below a role held"),
 ];
 
-/// The fewest cases of each call: 500,000 and more in all.
-const FEWEST: [usize; CALLS] = [100_000, 150_000, 20_000, 40_000, 20_000, 100_000, 100_000];
+/// The fewest cases of each call: 600,000 and more in all.
+const FEWEST: [usize; CALLS] = [
+    100_000, 150_000, 20_000, 40_000, 20_000, 100_000, 100_000, 100_000,
+];
 
 #[derive(Default)]
 pub struct Seen {
-    answers: [Tally<21>; CALLS],
+    answers: [Tally<22>; CALLS],
     numbers: Tally<7>,
     kinds: Tally<4>,
     most_conflicts: u32,
@@ -74,6 +82,9 @@ pub struct Seen {
     asked: Tally<8>,
     shown: Tally<8>,
     gains: Tally<3>,
+    bounds: Tally<25>,
+    bounded: Tally<8>,
+    reached: Tally<8>,
 }
 
 impl Seen {
@@ -127,12 +138,27 @@ impl Seen {
         gains.iter().for_each(|gain| self.gains.add(*gain as u8));
     }
 
-    /// How many H records users needed where that depends on no choice of group.
-    fn acting(&self) -> [(&str, &Tally<8>); 3] {
+    /// Notes a bound, and how many H records the group's users need at most.
+    pub fn bound(&mut self, bound: u32, records: u8) {
+        self.bounds.add(bound as u8);
+        self.bounded.add(records);
+    }
+
+    /// Notes how many H records lead from the role of an entry that counts to
+    /// the policy's.
+    pub fn reached(&mut self, records: u8) {
+        self.reached.add(records);
+    }
+
+    /// How many H records users needed where that depends on no choice of group,
+    /// and how many made an entry count towards a bound.
+    fn acting(&self) -> [(&str, &Tally<8>); 5] {
         [
             ("granted, H records:", &self.granted),
             ("signed, H records:", &self.signed),
             ("sheet granted, H records:", &self.asked),
+            ("bounded, H records:", &self.bounded),
+            ("reached, H records:", &self.reached),
         ]
     }
 
@@ -143,7 +169,7 @@ impl Seen {
     /// Prints all of it, also where the tests' output is kept back.
     pub fn print(&self, taken: Duration) {
         let head = line("answer", NAMES.map(str::to_string), "in all");
-        let answers = (0..21).map(|answer| {
+        let answers = (0..22).map(|answer| {
             let seen = self.answers.each_ref().map(|tally| tally.seen(answer));
             row(&answer.to_string(), seen)
         });
@@ -158,6 +184,9 @@ impl Seen {
             let records = RECORDS.iter();
             records.map(move |records| counted(name, tally, *records))
         });
+        let bounds = BOUNDS
+            .iter()
+            .map(|bound| counted("bound", &self.bounds, *bound));
         let gains = GAINS.iter().map(|(gain, name)| {
             let seen = self.gains.seen(*gain as u8);
             format!("{name}: {seen} times")
@@ -174,6 +203,7 @@ impl Seen {
             .chain(numbers)
             .chain(kinds)
             .chain(signatures)
+            .chain(bounds)
             .chain(acting)
             .chain(gains)
             .chain([last])
@@ -203,6 +233,7 @@ impl Seen {
         assert!(far > 0, "no group shown needs two H records or more");
         let gains = GAINS.map(|(gain, _)| gain as u8);
         self.gains.expect_exactly("gain", &gains);
+        self.bounds.expect_exactly("bound", BOUNDS);
     }
 }
 

@@ -3,7 +3,7 @@
 use compare::builder::*;
 use compare::questions::at_minute;
 use compare::sheets::{expect_call, SheetCall};
-use compare::shop::small_shop;
+pub use compare::shop::refused_bases;
 use model::{Context, Sheet};
 
 /// The parameter of a user who holds roles 0, 1 and 2.
@@ -80,33 +80,6 @@ pub fn expect_ask(base: &[u8], sheet: Sheet, answer: u8) {
 /// Expects this answer; no byte of the sheet changes.
 pub fn expect_ask_at(base: &[u8], at: Context, sheet: Sheet, answer: u8) {
     expect_call(base, SheetCall::Ask { at }, sheet, answer, sheet);
-}
-
-/// A base for each of refusals 1 to 9: the small shop with one fault.
-pub fn refused_bases() -> [Vec<u8>; 9] {
-    let shop = small_shop();
-    let with = |change: fn(&mut BaseBuilder)| {
-        let mut shop = small_shop();
-        change(&mut shop);
-        shop.bytes()
-    };
-    let (kind, a, b) = (0, 0, 3);
-    let exclusions = vec![Exclusion { kind, a, b }];
-    let with_exclusion = BaseBuilder {
-        exclusions,
-        ..small_shop()
-    };
-    [
-        vec![0; 35],
-        shop.bytes_with(|trailer| trailer.letters[3] = b'Q'),
-        shop.bytes_with(|trailer| trailer.roles = 9),
-        with(|shop| shop.hierarchy[1].junior = 3),
-        with(|shop| shop.users[3].parameter = 9),
-        with(|shop| shop.group_clauses[0].permission = 1),
-        with(|shop| shop.context_clauses[0].context = 16),
-        with(|shop| shop.policies[2].weight = 6),
-        with_exclusion.bytes(),
-    ]
 }
 
 /// The small shop's users in the roles they hold.
