@@ -126,10 +126,6 @@ mod tests {
     use crate::samples::*;
     use crate::weight::Situation;
 
-    const MANAGER: [u8; 2] = [0, 0];
-    const BUYER: [u8; 2] = [1, 1];
-    const CLERK: [u8; 2] = [2, 2];
-    const OTHER_CLERK: [u8; 2] = [3, 2];
     const ALL: [[u8; 2]; 4] = [MANAGER, BUYER, CLERK, OTHER_CLERK];
 
     /// The small shop's answer: the refusal and the bound.

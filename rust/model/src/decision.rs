@@ -142,11 +142,6 @@ mod tests {
     use crate::roles::RoleSet;
     use crate::samples::*;
 
-    const MANAGER: [u8; 2] = [0, 0];
-    const BUYER: [u8; 2] = [1, 1];
-    const CLERK: [u8; 2] = [2, 2];
-    const OTHER_CLERK: [u8; 2] = [3, 2];
-
     /// The small shop's answer for its permission.
     fn ask(minute: u32, group: &[[u8; 2]]) -> u8 {
         decide(&SMALL_SHOP, 0, at_minute(minute), &group.concat())

@@ -30,6 +30,12 @@ pub const SMALL_SHOP: [u8; 114] = [
     3, 0, 0, 0, b'L', b'C', b'A', b'P',
 ];
 
+/// Its users as entries, each in the role held.
+pub const MANAGER: [u8; 2] = [0, 0];
+pub const BUYER: [u8; 2] = [1, 1];
+pub const CLERK: [u8; 2] = [2, 2];
+pub const OTHER_CLERK: [u8; 2] = [3, 2];
+
 pub fn small_shop() -> Base {
     Base::read(&SMALL_SHOP).expect("the small shop passes")
 }
