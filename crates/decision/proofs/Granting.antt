@@ -10,7 +10,7 @@ use borrow.Author.Tests.{ltb-true, ltb-false, eqb-true, eqb-false, eq-eqb, ne-eq
 use lib.Dec.{ltb, eqb}
 use lib.ListN.{length, getD}
 use Rattle.folds.specs.Below.{countBelow}
-use Rattle.folds.proofs.Bools.{or-left, or-right}
+use Rattle.folds.proofs.Bools.{or-left, or-right, none-met, none-refused}
 use Rattle.folds.proofs.Tests.{any-at, any-each, any-same}
 use Rattle.folds.proofs.Numbers.{sum-same, sum-le, count-same}
 use Rattle.folds.specs.Sets.{inSet}
@@ -79,15 +79,6 @@ pub record Members (U R : ℕ) (may : ℕ → ℕ → Bool) (g : List ℕ) : Typ
   pub once : someTwice g ≡ false
   pub acting : someIneligible may g ≡ false
 
--- where the chain 12 to 15 gives 0, no test applies
-none-of : (p q r s : Bool) → cond {A = ℕ} p 12 (cond q 13 (cond r 14 (cond s 15 0))) ≡ 0 →
-    (p ≡ false) × (q ≡ false) × (r ≡ false) × (s ≡ false)
-none-of true q r s h = absurd (suc-ne-zero 11 h)
-none-of false true r s h = absurd (suc-ne-zero 12 h)
-none-of false false true s h = absurd (suc-ne-zero 13 h)
-none-of false false false true h = absurd (suc-ne-zero 14 h)
-none-of false false false false h = (refl, refl, refl, refl)
-
 -- a chain of four refusals before what follows is one chain
 one-chain : (p q r s : Bool) (left : ℕ) →
     let four = cond {A = ℕ} p 12 (cond q 13 (cond r 14 (cond s 15 0))) in
@@ -101,21 +92,23 @@ one-chain false false false false left = refl
 -- where 12 to 17 give 0, so do 12 to 15, no role is weightless and the condition holds
 none-left : (m : ℕ) (t c : Bool) → cond (not (eqb m 0)) m (cond t 16 (cond c 0 17)) ≡ 0 →
     (m ≡ 0) × (t ≡ false) × (c ≡ true)
-none-left m t c = by (eqb m 0) refl t c
+none-left m t c h =
+    let (members, past15) = none-refused m _ h in
+    let (weights, past16) = none-met t 15 past15 in
+    (members, weights, holds c past16)
   where
-    by : (r : Bool) → eqb m 0 ≡ r → (t c : Bool) → cond (not r) m (cond t 16 (cond c 0 17)) ≡ 0 →
-        (m ≡ 0) × (t ≡ false) × (c ≡ true)
-    by false e t c h = absurd (eqb-false _ _ e h)
-    by true e true c h = absurd (suc-ne-zero 15 h)
-    by true e false false h = absurd (suc-ne-zero 16 h)
-    by true e false true h = (eqb-true _ _ e, refl, refl)
+    holds : (c : Bool) → cond {A = ℕ} c 0 17 ≡ 0 → c ≡ true
+    holds true k = refl
+    holds false k = absurd (suc-ne-zero 16 k)
 
 module _ (U R : ℕ) (may : ℕ → ℕ → Bool) (g : List ℕ) where
   pub members-of : membersRefusal U R may g ≡ 0 → Members U R may g
   unfolding membersRefusal
   members-of h =
-      let w = none-of (lengthRefused g) (someUnknown U R g) (someTwice g) (someIneligible may g) h in
-      record { whole = w .0; known = w .1; once = w .2; acting = w .3 }
+      let (whole, past12) = none-met (lengthRefused g) 11 h in
+      let (known, past13) = none-met (someUnknown U R g) 12 past12 in
+      let (once, past14) = none-met (someTwice g) 13 past13 in
+      record { whole = whole; known = known; once = once; acting = none-met (someIneligible may g) 14 past14 .0 }
 
   pub members-pass : Members U R may g → membersRefusal U R may g ≡ 0
   unfolding membersRefusal
@@ -225,15 +218,11 @@ decision-granting b at p g ok there fit = rw (ok, lt-ltb _ _ there, fit) (granti
 -- where the head and what is left give 0, the base is accepted, the permission there and the context in range
 pub head-passed : (b : List ℕ) (at : Context) (p left : ℕ) → headed b at p left ≡ 0 →
     (refusalOf b ≡ 0) × (p < permissionCount b) × (outOfRange at ≡ false) × (left ≡ 0)
-head-passed b at p left = by (eqb (refusalOf b) 0) (ltb p (permissionCount b)) (outOfRange at) refl refl refl
-  where
-    by : (r s t : Bool) → eqb (refusalOf b) 0 ≡ r → ltb p (permissionCount b) ≡ s → outOfRange at ≡ t →
-        cond (not r) (refusalOf b) (cond (not s) 10 (cond t 11 left)) ≡ 0 →
-        (refusalOf b ≡ 0) × (p < permissionCount b) × (outOfRange at ≡ false) × (left ≡ 0)
-    by true true false er es et h = (eqb-true _ _ er, ltb-true _ _ es, et, h)
-    by true true true er es et h = absurd (suc-ne-zero 10 h)
-    by true false t er es et h = absurd (suc-ne-zero 9 h)
-    by false s t er es et h = absurd (eqb-false _ _ er h)
+head-passed b at p left h =
+    let (ok, past9) = none-refused (refusalOf b) _ h in
+    let (there, past10) = none-met (not (ltb p (permissionCount b))) 9 past9 in
+    let (in-range, past11) = none-met (outOfRange at) 10 past10 in
+    (ok, ltb-true _ _ (not-false _ there), in-range, past11)
 
 -- only an accepted base grants, a permission that is there, in a context in range
 pub decision-head : (b : List ℕ) (at : Context) (p : ℕ) (g : List ℕ) → decisionOf b at p g ≡ 0 →

@@ -10,7 +10,7 @@ use mathlib.Core.Logic.{_⊎_, inl, inr, ⊎-elim}
 use borrow.Author.Tests.{ltb-true, ltb-false, eqb-true, not-false, lt-ltb}
 use lib.Dec.{ltb, eqb}
 use lib.ListN.{length}
-use Rattle.folds.proofs.Bools.{or-left, or-right, clash, met-or-not}
+use Rattle.folds.proofs.Bools.{or-left, or-right, none-met, clash, met-or-not}
 use Rattle.folds.proofs.Tests.{any-at}
 use Rattle.reader.specs.Fields.{senior, junior, parameter, clausePermission, clauseLength}
 use Rattle.reader.specs.Fields.{conditionAttribute, conditionOperator, conditionValue}
@@ -67,18 +67,6 @@ accepted-frame b = by (lengthBad b) (lettersBad b) (trailerBad b) (recordsRefusa
     by false true z r h = h
     by false false true r h = h
     by false false false r h = refl
-
--- where a chain of six gives 0, its tests are all false
-none-of : (p q r s t u : Bool) →
-    cond {A = ℕ} p 4 (cond q 5 (cond r 6 (cond s 7 (cond t 8 (cond u 9 0))))) ≡ 0 →
-    (p ≡ false) × (q ≡ false) × (r ≡ false) × (s ≡ false) × (t ≡ false) × (u ≡ false)
-none-of true q r s t u h = absurd (suc-ne-zero 3 h)
-none-of false true r s t u h = absurd (suc-ne-zero 4 h)
-none-of false false true s t u h = absurd (suc-ne-zero 5 h)
-none-of false false false true t u h = absurd (suc-ne-zero 6 h)
-none-of false false false false true u h = absurd (suc-ne-zero 7 h)
-none-of false false false false false true h = absurd (suc-ne-zero 8 h)
-none-of false false false false false false h = (refl, refl, refl, refl, refl, refl)
 
 -- record i of table t lies in the table's bytes
 pub record-within : (t : ℕ) (r : List ℕ) (i : ℕ) → i < recordCount t r → width t * i + width t ≤ length r
@@ -256,7 +244,12 @@ pub accepted : (b : List ℕ) → refusalOf b ≡ 0 → Accepted b
 unfolding recordsRefusal
 accepted b ok =
     let f = accepted-frame b ok in
-    let (h, u, k, c, a, x) = none-of _ _ _ _ _ _ (sym (refused-records b f) ∙ ok) in
+    let (h, past4) = none-met _ 3 (sym (refused-records b f) ∙ ok) in
+    let (u, past5) = none-met _ 4 past4 in
+    let (k, past6) = none-met _ 5 past5 in
+    let (c, past7) = none-met _ 6 past6 in
+    let (a, past8) = none-met _ 7 past7 in
+    let (x, _) = none-met _ 8 past8 in
     record { frame = f; hierarchy = h; users = u; clauses = k; contexts = c; policies = a; exclusions = x }
 
 -- the law of membership: each user of an accepted base holds exactly the roles of a set below R, and the parameter is

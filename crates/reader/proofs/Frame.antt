@@ -1,15 +1,15 @@
 -- What the trailer says of the tables: their lengths and where they lie.
 use Prim.Native.Nat.{ℕ, suc, _+_, _*_, _<_, _≤_}
-use mathlib.Core.Bool.{Bool, true, false, cond}
+use mathlib.Core.Bool.{false}
 use mathlib.Core.Path.{_≡_, refl}
 use mathlib.Core.List.{List}
 use native.Mathlib.Omega.{arith}
-use native.Mathlib.Nat.{mul-le-mul, mul-div-cancel, min-eq-left, le-trans, suc-ne-zero}
+use native.Mathlib.Nat.{mul-le-mul, mul-div-cancel, min-eq-left, le-trans}
 use borrow.Author.Tests.{leb-true, ltb-true, ltb-false, eqb-true, not-false, lt-ltb, eq-eqb}
 use lib.Dec.{lit<, leb, ltb}
 use lib.ListN.{length, length-take, length-drop}
 use Rattle.folds.specs.Below.{allBelow, anyBelow}
-use Rattle.folds.proofs.Bools.{or-left, or-right}
+use Rattle.folds.proofs.Bools.{or-left, or-right, none-met}
 use Rattle.folds.proofs.Tests.{all-at, any-at}
 use Rattle.folds.proofs.Numbers.{sum-step, sum-le-sum}
 use Rattle.reader.specs.Tables.{width, limit, trailer, tableOffset, tableCount, tableSize, tableStart, roleCount}
@@ -46,24 +46,19 @@ pub record Framed (b : List ℕ) : Type 0 where
   pub reserved : reservedBad b ≡ false
   pub tables : tablesBad b ≡ false
 
--- the chain's last link: where it gives 0, its tests are all false
-none-of : (x y z : Bool) → cond {A = ℕ} x 1 (cond y 2 (cond z 3 0)) ≡ 0 → (x ≡ false) × (y ≡ false) × (z ≡ false)
-none-of true y z h = absurd (suc-ne-zero 0 h)
-none-of false true z h = absurd (suc-ne-zero 1 h)
-none-of false false true h = absurd (suc-ne-zero 2 h)
-none-of false false false h = (refl, refl, refl)
-
 pub framed : (b : List ℕ) → frameRefusal b ≡ 0 → Framed b
 unfolding frameRefusal lengthBad trailerBad
 framed b h =
-    let w = none-of (lengthBad b) (lettersBad b) (trailerBad b) h in
+    let (size, past1) = none-met (lengthBad b) 0 h in
+    let (marked, past2) = none-met (lettersBad b) 1 past1 in
+    let (rest, _) = none-met (trailerBad b) 2 past2 in
     record {
-      long = long-enough b (w .0);
-      short = ltb-false _ _ (or-right (ltb (length b) 36) _ (w .0));
-      letters = w .1;
-      roles = or-left _ _ (w .2);
-      reserved = or-left _ _ (or-right (rolesBad b) _ (w .2));
-      tables = or-right (reservedBad b) _ (or-right (rolesBad b) _ (w .2));
+      long = long-enough b size;
+      short = ltb-false _ _ (or-right (ltb (length b) 36) _ size);
+      letters = marked;
+      roles = or-left _ _ rest;
+      reserved = or-left _ _ (or-right (rolesBad b) _ rest);
+      tables = or-right (reservedBad b) _ (or-right (rolesBad b) _ rest);
     }
 
 module _ (b : List ℕ) (ok : frameRefusal b ≡ 0) where

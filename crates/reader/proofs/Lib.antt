@@ -3,3 +3,4 @@ pub mod Parameter
 pub mod Accepted
 pub mod Conditions
 pub mod Replaced
+pub mod Answered

@@ -3,3 +3,4 @@ pub mod Tables
 pub mod Fields
 pub mod Codes
 pub mod Rules
+pub mod Answers

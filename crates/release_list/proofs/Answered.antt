@@ -1,11 +1,11 @@
 -- The report's answer and bytes as text.
 use Prim.Native.Nat.{ℕ, _<_, _≤_}
-use mathlib.Core.Bool.{Bool, true, false, cond}
-use mathlib.Core.Path.{_≡_, refl, sym, ap, _∙_}
+use mathlib.Core.Bool.{false}
+use mathlib.Core.Path.{_≡_, sym, ap, _∙_}
 use mathlib.Core.List.{List, [], _++_}
 use native.Mathlib.Nat.{zero-add}
 use native.Mathlib.Omega.{arith}
-use borrow.Author.Tests.{eq-eqb, ne-eqb, lt-ltb, le-ltb, eqb-true}
+use borrow.Author.Tests.{eq-eqb, ne-eqb, lt-ltb, le-ltb}
 use lib.Dec.{eqb}
 use lib.ListN.{length, drop, length-append}
 use lib.Seq.{sets-eq}
@@ -13,6 +13,7 @@ use Rattle.folds.specs.Below.{joinBelow}
 use Rattle.reader.specs.declared.Answer.{Answer}
 use Rattle.reader.specs.Tables.{permissionCount, frameRefusal}
 use Rattle.reader.proofs.Accepted.{accepted-frame}
+use Rattle.reader.proofs.Answered.{refusal-in, count-in}
 use Rattle.weights.specs.declared.Context.{Context}
 use Rattle.report.specs.Smallest.{smallestOf}
 use Rattle.report.specs.Report.{reportRefusal, releasable, reportAnswer, ShownFor, Reported}
@@ -53,14 +54,7 @@ module _ (b : List ℕ) (at : Context) (was after : List ℕ) (r : Answer) (size
 
   refusal-is : r .refusal ≡ reportRefusal b at 208
   unfolding reportAnswer
-  refusal-is = ap (λ (x : Answer). x .refusal) answer-is ∙ by (eqb (reportRefusal b at 208) 0) refl
-    where
-      by : (t : Bool) → eqb (reportRefusal b at 208) 0 ≡ t →
-          cond {A = Answer} t (record { refusal = 0; count = releasable b at })
-          (record { refusal = reportRefusal b at 208; count = 0 }) .refusal
-          ≡ reportRefusal b at 208
-      by true e = sym (eqb-true _ _ e)
-      by false e = refl
+  refusal-is = ap (λ (x : Answer). x .refusal) answer-is ∙ refusal-in (reportRefusal b at 208) (releasable b at)
 
   -- these bytes suffice, so what is printed is the refusal for a buffer that suffices
   printed-is : r .refusal ≡ refusalFor b at
@@ -93,7 +87,8 @@ module _ (b : List ℕ) (at : Context) (was after : List ℕ) (r : Answer) (size
 
     count-is : r .count ≡ releasable b at
     unfolding reportAnswer
-    count-is = ap (λ (x : Answer). x .count) answer-is ∙ rw (eq-eqb (reportRefusal b at 208) 0 unrefused)
+    count-is =
+        ap (λ (x : Answer). x .count) answer-is ∙ count-in (reportRefusal b at 208) (releasable b at) unrefused
 
     count-few : r .count ≤ 16
     count-few = rw count-is (releasable-few b at (d .chosen) unrefused shows)

@@ -7,6 +7,7 @@ use lib.ListN.{length, drop, replicate}
 use lib.Dec.{ltb, eqb}
 use Rattle.folds.specs.Below.{countBelow, joinBelow}
 use Rattle.reader.specs.declared.Answer.{Answer}
+use Rattle.reader.specs.Answers.{answered}
 use Rattle.reader.specs.Tables.{permissionCount}
 use Rattle.reader.specs.Rules.{refusalOf}
 use Rattle.weights.specs.declared.Context.{Context}
@@ -28,10 +29,8 @@ releasable b at = countBelow (permissionCount b) (λ p. ltb 0 (smallestOf b at p
 
 -- the answer: a refusal carries 0
 unfoldable pub reportAnswer : List ℕ → Context → ℕ → Answer
-reportAnswer b at n =
-    cond (eqb (reportRefusal b at n) 0)
-    (record { refusal = 0; count = releasable b at })
-    (record { refusal = reportRefusal b at n; count = 0 })
+unfolding answered
+reportAnswer b at n = answered (reportRefusal b at n) (releasable b at)
 
 -- the bytes g are a group to be shown for permission p: a smallest one, by strictly rising user; empty where none is
 -- granted

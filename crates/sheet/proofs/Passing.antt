@@ -1,12 +1,11 @@
 -- What signing gives, and that it passes exactly if none of its refusals applies.
 use Prim.Native.Nat.{ℕ, _<_}
-use mathlib.Core.Bool.{Bool, true, false, not, cond}
-use mathlib.Core.Path.{_≡_, refl}
+use mathlib.Core.Bool.{true, false, not}
+use mathlib.Core.Path.{_≡_}
 use mathlib.Core.List.{List}
-use native.Mathlib.Nat.{suc-ne-zero}
-use borrow.Author.Tests.{ltb-true, lt-ltb, eqb-true, eqb-false, ne-eqb, not-false}
-use lib.Dec.{ltb, eqb}
-use Rattle.folds.proofs.Bools.{or-left, or-right}
+use borrow.Author.Tests.{ltb-true, lt-ltb, ne-eqb, not-false}
+use lib.Dec.{ltb}
+use Rattle.folds.proofs.Bools.{or-left, or-right, none-met, none-refused}
 use Rattle.reader.specs.Tables.{roleCount, userCount}
 use Rattle.reader.specs.Rules.{refusalOf}
 use Rattle.weights.specs.Acting.{mayAct}
@@ -36,33 +35,22 @@ module _ (b : List ℕ) (s : Sheet) (u r : ℕ) where
   unfolding signed
   signed-done e h = rw (e, h)
 
-none-of : (m : ℕ) (p q r s : Bool) →
-    cond (not (eqb m 0)) m (cond p 13 (cond q 14 (cond r 15 (cond s 20 0)))) ≡ 0 →
-    (m ≡ 0) × (p ≡ false) × (q ≡ false) × (r ≡ false) × (s ≡ false)
-none-of m p q r s = by (eqb m 0) refl p q r s
-  where
-    by : (t : Bool) → eqb m 0 ≡ t → (p q r s : Bool) →
-        cond (not t) m (cond p 13 (cond q 14 (cond r 15 (cond s 20 0)))) ≡ 0 →
-        (m ≡ 0) × (p ≡ false) × (q ≡ false) × (r ≡ false) × (s ≡ false)
-    by false e p q r s h = absurd (eqb-false _ _ e h)
-    by true e true q r s h = absurd (suc-ne-zero 12 h)
-    by true e false true r s h = absurd (suc-ne-zero 13 h)
-    by true e false false true s h = absurd (suc-ne-zero 14 h)
-    by true e false false false true h = absurd (suc-ne-zero 19 h)
-    by true e false false false false h = (eqb-true _ _ e, refl, refl, refl, refl)
-
 module _ (b held : List ℕ) (u r : ℕ) where
   pub sign-passes : signRefusal b held u r ≡ 0 → Passes b held u r
   unfolding signRefusal
   sign-passes h =
-      let w = none-of (refusalOf b) _ _ _ _ h in
+      let (ok, past9) = none-refused (refusalOf b) _ h in
+      let (known, past13) = none-met _ 12 past9 in
+      let (new, past14) = none-met _ 13 past13 in
+      let (acting, past15) = none-met _ 14 past14 in
+      let (room, _) = none-met _ 19 past15 in
       record {
-        ok = w .0;
-        user = ltb-true _ _ (not-false _ (or-left _ _ (w .1)));
-        role = ltb-true _ _ (not-false _ (or-right (not (ltb u (userCount b))) _ (w .1)));
-        new = w .2;
-        acting = not-false _ (w .3);
-        room = ltb-true _ _ (not-false _ (w .4));
+        ok = ok;
+        user = ltb-true _ _ (not-false _ (or-left _ _ known));
+        role = ltb-true _ _ (not-false _ (or-right (not (ltb u (userCount b))) _ known));
+        new = new;
+        acting = not-false _ acting;
+        room = ltb-true _ _ (not-false _ room);
       }
 
   pub passes-sign : Passes b held u r → signRefusal b held u r ≡ 0

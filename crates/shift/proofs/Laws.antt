@@ -1,9 +1,9 @@
 -- The bound: what its answer says, and the theorem in its words.
 use Prim.Native.Nat.{ℕ, _<_, _≤_}
-use mathlib.Core.Bool.{true, false, not, cond, or-true}
+use mathlib.Core.Bool.{true, false, not, or-true}
 use mathlib.Core.List.{List}
 use mathlib.Core.Logic.{_⊎_, inl, inr, ⊎-elim, _↔_}
-use mathlib.Core.Path.{_≡_, refl}
+use mathlib.Core.Path.{_≡_, refl, sym, _∙_}
 use native.Mathlib.Omega.{arith}
 use native.Mathlib.Nat.{mul-le-mul}
 use borrow.Author.Tests.{eqb-true, eq-eqb, ne-eqb, ltb-true, ltb-false, not-false, lt-ltb}
@@ -13,9 +13,10 @@ use Rattle.folds.proofs.Numbers.{count-same, count-le}
 use Rattle.reader.specs.Tables.{hierarchy, policies, permissionCount, policyCount, roleCount, userCount, tableOf}
 use Rattle.reader.specs.Fields.{policyRole}
 use Rattle.reader.specs.Rules.{outside, refusalOf}
-use Rattle.reader.specs.declared.Answer.{Answer}
+use Rattle.reader.specs.Answers.{answered}
 use Rattle.reader.proofs.Frame.{roles-range}
 use Rattle.reader.proofs.Accepted.{accepted, policy-fine}
+use Rattle.reader.proofs.Answered.{refusal-in, count-in}
 use Rattle.weights.specs.declared.Context.{Context}
 use Rattle.weights.specs.Contexts.{outOfRange}
 use Rattle.weights.specs.Seniority.{Chain}
@@ -27,7 +28,7 @@ use Rattle.decision.specs.Decision.{membersOf, groupDecision, decisionOf}
 use Rattle.decision.proofs.Granting.{Members, members-of, short-enough}
 use Rattle.shift.specs.Shift.{distance, weightIn, withWeight, OneWeight, roleOrSenior, touched}
 use Rattle.shift.specs.Shift.{boundOf, changeRefused, boundRefusal, boundAnswer, Bounded}
-use Rattle.shift.specs.Shift.{atOrAbove, entriesAtOrAbove}
+use Rattle.shift.specs.Counting.{atOrAbove, entriesAtOrAbove}
 use Rattle.shift.proofs.Replaced.{new-weight, still-accepted}
 use Rattle.shift.proofs.Shift.{shifts}
 
@@ -72,31 +73,7 @@ pub change-allowed : (n i w : ℕ) → changeRefused n i w ≡ false → (i < n)
 unfolding changeRefused
 change-allowed n i w h = (ltb-true _ _ (not-false _ (or-left _ _ h)), or-right (not (ltb i n)) _ h)
 
--- an answer's refusal is 0 only where nothing is refused
-zero-refusal : (r k : ℕ) →
-    cond {A = Answer} (eqb r 0) (record { refusal = 0; count = k }) (record { refusal = r; count = 0 }) .refusal ≡ 0 →
-    r ≡ 0
-zero-refusal r k h = ⊎-elim (eqb-true r 0) (λ e. rw e at h) (met-or-not (eqb r 0))
-
 module _ (b : List ℕ) (i w : ℕ) (g : List ℕ) where
-  -- a refusal carries 0
-  pub answer-refused : {n : ℕ} → n ≡ boundRefusal b i w g → (n ≡ 0 → ⊥) →
-      _≡_ {A = Answer} (record { refusal = n; count = 0 }) (boundAnswer b i w g)
-  unfolding boundAnswer
-  answer-refused {n} e h = rw (← e, ne-eqb n 0 h)
-
-  -- 0 carries the bound
-  pub answer-given : {k : ℕ} → boundRefusal b i w g ≡ 0 → k ≡ boundOf b i w g →
-      _≡_ {A = Answer} (record { refusal = 0; count = k }) (boundAnswer b i w g)
-  unfolding boundAnswer
-  answer-given h e = rw (h, e)
-
-  -- an answer of 0: nothing is refused, and it carries the bound
-  given : boundAnswer b i w g .refusal ≡ 0 →
-      (boundRefusal b i w g ≡ 0) × (boundAnswer b i w g .count ≡ boundOf b i w g)
-  unfolding boundAnswer
-  given h = let none = zero-refusal (boundRefusal b i w g) (boundOf b i w g) h in (none, rw none)
-
   -- the decision's refusals 1 to 9 and 12 to 15, and 21, don't apply
   record Allowed : Type 0 where
     ok : refusalOf b ≡ 0
@@ -116,7 +93,8 @@ module _ (b : List ℕ) (i w : ℕ) (g : List ℕ) where
   pub bounded : boundAnswer b i w g .refusal ≡ 0 → Bounded b i w g
   unfolding boundOf
   bounded h =
-      let (none, count) = given h in
+      let none = sym (refusal-in (boundRefusal b i w g) (boundOf b i w g)) ∙ h in
+      let count = count-in (boundRefusal b i w g) (boundOf b i w g) none in
       let a = allowed none in
       let new = still-accepted b (a .ok) i (a .there) w (a .fits) in
       let one : OneWeight b (withWeight b i w) i =
@@ -141,6 +119,6 @@ module _ (b : List ℕ) (i w : ℕ) (g : List ℕ) where
 
   -- the count is at most 24
   pub bound-le : boundAnswer b i w g .count ≤ 24
-  unfolding boundAnswer
+  unfolding answered
   bound-le =
       ⊎-elim (λ e. rw e (small (eqb-true _ _ e))) (λ e. rw e (omega arith)) (met-or-not (eqb (boundRefusal b i w g) 0))

@@ -3,14 +3,14 @@ use Prim.Native.Nat.{ℕ, _+_, _-_, _*_, _<_, _≤_}
 use mathlib.Core.Bool.{Bool, true, false, _||_, not, cond}
 use mathlib.Core.Path.{_≡_}
 use mathlib.Core.List.{List}
-use lib.ListN.{getD, set}
+use lib.ListN.{set}
 use lib.Dec.{ltb, eqb}
 use Rattle.folds.specs.Below.{countBelow}
-use Rattle.folds.specs.Sets.{inSet}
 use Rattle.reader.specs.Tables.{hierarchy, policies, tableOffset, tableOf, policyCount}
 use Rattle.reader.specs.Fields.{weightPlace, policyRole, policyWeight}
 use Rattle.reader.specs.Rules.{outside, refusalOf}
 use Rattle.reader.specs.declared.Answer.{Answer}
+use Rattle.reader.specs.Answers.{answered}
 use Rattle.weights.specs.declared.Context.{Context}
 use Rattle.weights.specs.Seniority.{seniorTo}
 use Rattle.weights.specs.Weights.{weight}
@@ -80,11 +80,8 @@ boundRefusal b i w g =
     (cond (changeRefused (policyCount b) i w) 21 0))
 
 -- the answer: a refusal carries 0
-unfoldable pub boundAnswer : List ℕ → ℕ → ℕ → List ℕ → Answer
-boundAnswer b i w g =
-    cond (eqb (boundRefusal b i w g) 0)
-    (record { refusal = 0; count = boundOf b i w g })
-    (record { refusal = boundRefusal b i w g; count = 0 })
+abbrev pub boundAnswer : List ℕ → ℕ → ℕ → List ℕ → Answer
+boundAnswer b i w g = answered (boundRefusal b i w g) (boundOf b i w g)
 
 -- what an answer of 0 says: the base with that weight is accepted, and for every permission and context the group's two
 -- sums differ by at most the count
@@ -92,12 +89,3 @@ pub record Bounded (b : List ℕ) (i w : ℕ) (g : List ℕ) : Type 0 where
   pub accepted : refusalOf (withWeight b i w) ≡ 0
   pub sums : (at : Context) (p : ℕ) →
       distance (sumBy b at p g) (sumBy (withWeight b i w) at p g) ≤ boundAnswer b i w g .count
-
--- for the code: role r is role q or has q among its juniors, by the sets of each role's juniors
-abbrev pub atOrAbove : List ℕ → ℕ → ℕ → Bool
-atOrAbove juniors q r = eqb r q || inSet (getD juniors r 0) q
-
--- the number of entries in such roles
-unfoldable pub entriesAtOrAbove : List ℕ → ℕ → List ℕ → ℕ
-unfolding countBelow
-entriesAtOrAbove juniors q g = countBelow (entryCount g) (λ k. atOrAbove juniors q (entryRole g k))

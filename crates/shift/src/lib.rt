@@ -6,7 +6,8 @@ ghost use lib.ListN.{length};
 ghost use Rattle.reader.specs.Tables.{policies, recordCount};
 ghost use Rattle.reader.specs.Fields.{policyRole, policyWeight};
 ghost use Rattle.decision.specs.Groups.{entryCount, entryRole};
-ghost use Rattle.shift.specs.Shift.{distance, changeRefused, boundAnswer, atOrAbove, entriesAtOrAbove};
+ghost use Rattle.shift.specs.Shift.{distance, changeRefused, boundAnswer};
+ghost use Rattle.shift.specs.Counting.{atOrAbove, entriesAtOrAbove};
 
 // Entry point: by how much, at most, the group's sum of weights shifts where the policy gets this weight; refusals 1 to
 // 9, 12 to 15, then 21. A refusal carries 0.

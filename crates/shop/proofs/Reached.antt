@@ -1,5 +1,6 @@
 -- The bound on the small shop: by computing both sides.
 use mathlib.Core.Path.{refl}
+use Rattle.reader.specs.Answers.{answered}
 use Rattle.reader.specs.Bytes.{word16, word32}
 use Rattle.reader.specs.Tables.{tableOf, tableOffset, tableCount, tableStart, roleCount}
 use Rattle.reader.specs.Tables.{lengthBad, lettersBad, rolesBad, reservedBad, tablesBad, trailerBad, frameRefusal}
@@ -12,7 +13,7 @@ use Rattle.weights.specs.Weights.{weight}
 use Rattle.weights.specs.Acting.{mayAct}
 use Rattle.decision.specs.Groups.{sumOf, lengthRefused, someUnknown, standsBefore, someTwice, someIneligible}
 use Rattle.decision.specs.Groups.{membersRefusal}
-use Rattle.shift.specs.Shift.{roleOrSenior, touched, boundOf, changeRefused, boundRefusal, boundAnswer}
+use Rattle.shift.specs.Shift.{roleOrSenior, touched, boundOf, changeRefused, boundRefusal}
 use Rattle.shop.specs.Shop.{shop}
 use Rattle.shop.specs.Reached.{sideBySide, idle, behind, Reached}
 
@@ -24,7 +25,7 @@ unfolding shop sideBySide idle behind
     contextsBad contextBad contextSlotBad contextConditionBad policiesBad policyBad exclusionsBad
     recordsRefusal refusalOf contextHolds weight
     lengthRefused someUnknown someTwice standsBefore someIneligible heldBy mayAct membersRefusal sumOf
-    roleOrSenior touched boundOf changeRefused boundRefusal boundAnswer
+    roleOrSenior touched boundOf changeRefused boundRefusal answered
 reached = record {
   by-manager = record { bound = record { accepted = refl; answer = refl }; sums = λ d z. refl };
   by-buyer = record { bound = record { accepted = refl; answer = refl }; sums = λ d z. refl };

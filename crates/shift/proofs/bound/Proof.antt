@@ -16,14 +16,15 @@ use Rattle.reader.specs.Fields.{policyRole, policyWeight}
 use Rattle.reader.specs.Rules.{outside, refusalOf}
 use Rattle.reader.proofs.Frame.{roles-range}
 use Rattle.reader.proofs.Accepted.{accepted, accepted-frame, policy-fine}
+use Rattle.reader.proofs.Answered.{answered-refused, answered-done}
 use Rattle.weights.specs.Acting.{mayAct}
 use Rattle.weights.specs.Setting.{Juniors}
 use Rattle.decision.specs.Groups.{entryCount, entryRole}
 use Rattle.decision.specs.Decision.{membersOf}
 use Rattle.decision.proofs.Granting.{Members, members-of, short-enough, role-below}
-use Rattle.shift.specs.Shift.{distance, changeRefused, entriesAtOrAbove}
-use Rattle.shift.specs.Shift.{boundOf, boundRefusal}
-use Rattle.shift.proofs.Laws.{touched-by, change-allowed, answer-refused, answer-given}
+use Rattle.shift.specs.Counting.{entriesAtOrAbove}
+use Rattle.shift.specs.Shift.{distance, boundOf, changeRefused, boundRefusal}
+use Rattle.shift.proofs.Laws.{touched-by, change-allowed}
 use Rattle.shift.proofs.bound.Statement.{statement}
 use Rattle.shift.proofs.bound.Tie as tie
 
@@ -176,9 +177,8 @@ check-requires c κs = search needs
 returns : tie.Need-returns
 unfolding boundRefusal
 returns c =
-    let s = start9 (c .before) in
     let e = test9 (c .before) in
-    answer-refused (base s) (policy s) (weight s) (group s) (e ∙ refused _ (λ h. c .if1 .taken (e ∙ h))) (c .if1 .taken)
+    answered-refused _ _ (e ∙ refused _ (λ h. c .if1 .taken (e ∙ h))) (c .if1 .taken)
 
 juniors-of-base-requires : tie.Need-juniors-of-base-requires
 juniors-of-base-requires c κs = ok9 c
@@ -189,10 +189,8 @@ members-refusal-requires c κs = let l = at-juniors c .facts in (l .ok, l .are)
 returns-2 : tie.Need-returns-2
 returns-2 c =
     let r = at15 (c .before) in
-    let s = r .start in
     let e = test15 (c .before) in
-    answer-refused (base s) (policy s) (weight s) (group s)
-    (e ∙ refused _ (λ h. c .if2 .taken (e ∙ h)) ∙ sym (r .rest)) (c .if2 .taken)
+    answered-refused _ _ (e ∙ refused _ (λ h. c .if2 .taken (e ∙ h)) ∙ sym (r .rest)) (c .if2 .taken)
 
 part-requires : tie.Need-part-requires
 part-requires c κs = (accepted-frame _ (past15 c .facts .led .ok), omega arith)
@@ -203,9 +201,7 @@ change-refused-requires c κs = search needs
 returns-3 : tie.Need-returns-3
 returns-3 c =
     let r = at21 (c .before) in
-    let s = r .start in
-    answer-refused (base s) (policy s) (weight s) (group s)
-    (met 0 (test21 (c .before) ∙ c .if3 .taken) ∙ sym (r .rest)) (suc-ne-zero 20)
+    answered-refused _ _ (met 0 (test21 (c .before) ∙ c .if3 .taken) ∙ sym (r .rest)) (suc-ne-zero 20)
 
 cast-bound-of : tie.Need-cast-bound-of
 cast-bound-of c =
@@ -233,7 +229,7 @@ returns-4 c =
     let r = at-bound c in
     let s = r .start in
     let t = r .facts .tabled in
-    answer-given (base s) (policy s) (weight s) (group s) (r .rest)
+    answered-done _ _ (r .rest)
     (bound-by (base s) _ _ (policy s) (weight s) (group s) (t .is) (t .whole .led .are) (t .whole .known .low)
     (c .bound-of .ensures))
 

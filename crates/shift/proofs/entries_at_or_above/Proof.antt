@@ -12,7 +12,7 @@ use borrow.Author.Needs.{needs}
 use Rattle.folds.specs.Below.{countBelow}
 use Rattle.folds.proofs.Numbers.{count-none, count-more, count-le}
 use Rattle.decision.specs.Groups.{entryCount, entryRole}
-use Rattle.shift.specs.Shift.{atOrAbove, entriesAtOrAbove}
+use Rattle.shift.specs.Counting.{atOrAbove, entriesAtOrAbove}
 use Rattle.shift.proofs.entries_at_or_above.Statement.{statement}
 use Rattle.shift.proofs.entries_at_or_above.Tie as tie
 
