@@ -21,9 +21,9 @@ use Rattle.decision.specs.Conditions.{permissionHolds}
 use Rattle.decision.specs.Groups.{entryCount, entryUser, entryRole, sumOf, lengthRefused, someUnknown}
 use Rattle.decision.specs.Groups.{standsBefore, someTwice}
 use Rattle.decision.specs.Groups.{someIneligible, someWeightless, membersRefusal}
-use Rattle.decision.specs.Decision.{groupDecision, decisionOf}
+use Rattle.decision.specs.Decision.{groupDecision, decisionBy, decisionOf}
 use Rattle.decision.proofs.Granting.{granting, head-passed}
-use Rattle.report.specs.Smallest.{smallestOf}
+use Rattle.report.specs.Smallest.{smallestBy, smallestOf}
 use Rattle.report.proofs.Least.{of-decision, smallest-zero, smallest-least}
 use Rattle.acting.specs.Readings.{decisionByHolding, smallestByHolding, headBuyer, BecomesOne}
 use Rattle.acting.proofs.Wider.{of-held}
@@ -34,7 +34,7 @@ record Computed : Type 0 where
   users : userCount headBuyer ≡ 1
   roles : roleCount headBuyer ≡ 2
   manager-alone : holds headBuyer 0 1 ≡ false
-  weightless : (at : Context) → weight headBuyer at 0 0 ≡ 0
+  weightless : (at : Context) → weight [] headBuyer at 0 0 ≡ 0
   granted : (at : Context) → outOfRange at ≡ false → decisionOf headBuyer at 0 (0 ∷ 1 ∷ []) ≡ 0
 
 computed : Computed
@@ -44,7 +44,7 @@ unfolding headBuyer
     hierarchyBad usersBad parameterOk codeProduct clausesBad clauseBad clauseSlotBad contextsBad policiesBad policyBad
     exclusionsBad recordsRefusal refusalOf heldBy mayAct contextHolds weight
     lengthRefused someUnknown someTwice standsBefore someIneligible membersRefusal someWeightless
-    sumOf permissionHolds groupDecision decisionOf
+    sumOf permissionHolds groupDecision decisionBy
 computed = record {
   passes = refl;
   users = refl;
@@ -56,7 +56,7 @@ computed = record {
 
 -- whoever holds a role holds the manager role, which has no weight
 held-weightless : (at : Context) (u r : ℕ) → u < 1 → r < 2 → holds headBuyer u r ≡ true →
-    0 < weight headBuyer at r 0 → ⊥
+    0 < weight [] headBuyer at r 0 → ⊥
 held-weightless at zero zero user role held heavy = let z = computed .weightless at in omega arith
 held-weightless at zero (suc zero) user role held heavy = clash (holds headBuyer 0 1) held (computed .manager-alone)
 held-weightless at zero (suc (suc r)) user role held heavy = omega arith
@@ -79,10 +79,10 @@ zero-held at =
     (λ g. never-met (eqb (decisionByHolding headBuyer at 0 g) 0) (λ h. none-held at g (eqb-true _ _ h)))
 
 one-acting : (at : Context) → outOfRange at ≡ false → smallestOf headBuyer at 0 ≡ 1
-unfolding smallestOf
+unfolding smallestBy
 one-acting at in-range =
     let granted = eq-eqb _ _ (computed .granted at in-range) in
-    let (above, most) = smallest-least _ (of-decision headBuyer at 0) (0 ∷ 1 ∷ []) granted in
+    let (above, most) = smallest-least _ (of-decision [] headBuyer at 0) (0 ∷ 1 ∷ []) granted in
     omega arith
 
 pub becomes-one : BecomesOne

@@ -17,14 +17,14 @@ use Rattle.decision.specs.Decision.{headed}
 use Rattle.report.specs.Smallest.{smallest, smallestOf}
 
 -- the decision where `may` says who is eligible in which role: the head and the chain 12 to 17 are the decision's own
-abbrev pub decisionBy : (ℕ → ℕ → Bool) → List ℕ → Context → ℕ → List ℕ → ℕ
-decisionBy may b at p g =
+abbrev pub decisionWhere : (ℕ → ℕ → Bool) → List ℕ → Context → ℕ → List ℕ → ℕ
+decisionWhere may b at p g =
     headed b at p
-    (groupRefusal (userCount b) (roleCount b) may (λ r. weight b at r p) (permissionHolds (tableOf b clauses) p) g)
+    (groupRefusal (userCount b) (roleCount b) may (λ r. weight [] b at r p) (permissionHolds (tableOf b clauses) p) g)
 
 -- the decision by holding alone
 abbrev pub decisionByHolding : List ℕ → Context → ℕ → List ℕ → ℕ
-decisionByHolding b at p g = decisionBy (holds b) b at p g
+decisionByHolding b at p g = decisionWhere (holds b) b at p g
 
 -- the smallest number of approvers by holding alone
 unfoldable pub smallestByHolding : List ℕ → Context → ℕ → ℕ

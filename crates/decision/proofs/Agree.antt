@@ -108,10 +108,10 @@ module _ (U W R S : ℕ) (may can : ℕ → ℕ → Bool) (weigh other : ℕ →
   same-refusal = rw (c, q, same-ineligible, same-weightless, same-sum, h)
 
 -- bases that agree decide alike on every group
-pub same-group-decision : (b d : List ℕ) → SameDeciding b d → (at : Context) (p : ℕ) (g : List ℕ) →
-    groupDecision b at p g ≡ groupDecision d at p g
+pub same-group-decision : (b d : List ℕ) → SameDeciding b d → (rules : List ℕ) (at : Context) (p : ℕ) (g : List ℕ) →
+    groupDecision rules b at p g ≡ groupDecision rules d at p g
 unfolding groupDecision
-same-group-decision b d e at p g =
-    same-refusal _ _ _ _ (eligible b at p) (eligible d at p) (λ r. weight b at r p) (λ r. weight d at r p) _ _
-    (e .users .count) (e .weighing .roles)
-    (same-acting b d e) (λ r. same-weight b d (e .weighing) at r p) (same-condition _ _ (e .clauses) p) g
+same-group-decision b d e rules at p g =
+    same-refusal _ _ _ _ (eligible b at p) (eligible d at p) (λ r. weight rules b at r p) (λ r. weight rules d at r p)
+    _ _ (e .users .count) (e .weighing .roles)
+    (same-acting b d e) (λ r. same-weight b d (e .weighing) rules at r p) (same-condition _ _ (e .clauses) p) g

@@ -24,7 +24,7 @@ use Rattle.weights.specs.Setting.{AreWeights}
 use Rattle.decision.specs.Groups.{entryCount, entryUser, entryRole, sumOf, actedIn, rolesOf}
 use Rattle.decision.specs.Groups.{lengthRefused, unknownAt, someUnknown, standsBefore, someTwice, someIneligible}
 use Rattle.decision.specs.Groups.{someWeightless, membersRefusal, groupRefusal}
-use Rattle.decision.specs.Decision.{groupDecision, headed, decisionOf}
+use Rattle.decision.specs.Decision.{groupDecision, headed, decisionBy}
 use Rattle.decision.specs.Conditions.{roleNum, permissionHolds}
 use Rattle.decision.specs.Granting.{Granted, GrantedBy}
 
@@ -49,14 +49,14 @@ pub role-below : (U R : ℕ) (g : List ℕ) → someUnknown U R g ≡ false → 
     (i : ℕ) → i < entryCount g → entryRole g i < 8
 role-below U R g h small i l = lt-of-lt-of-le (role-known U R g h i l) small
 
-module _ (b : List ℕ) (at : Context) (p : ℕ) (w g : List ℕ) (are : AreWeights b at p w)
+module _ (rules b : List ℕ) (at : Context) (p : ℕ) (w g : List ℕ) (are : AreWeights rules b at p w)
     (low : (i : ℕ) → i < entryCount g → entryRole g i < 8) where
   -- what the weights handed on say is what the weights say
-  pub weightless-same : someWeightless (λ r. getD w r 0) g ≡ someWeightless (λ r. weight b at r p) g
+  pub weightless-same : someWeightless (λ r. getD w r 0) g ≡ someWeightless (λ r. weight rules b at r p) g
   unfolding someWeightless
   weightless-same = any-same _ _ (entryCount g) (λ i l. ap (λ (x : ℕ). eqb x 0) (are .role (entryRole g i) (low i l)))
 
-  pub sum-weights : sumOf (λ r. getD w r 0) g ≡ sumOf (λ r. weight b at r p) g
+  pub sum-weights : sumOf (λ r. getD w r 0) g ≡ sumOf (λ r. weight rules b at r p) g
   unfolding sumOf
   sum-weights = sum-same _ _ (entryCount g) (λ i l. are .role (entryRole g i) (low i l))
 
@@ -65,11 +65,11 @@ pub unknown-same : (b g : List ℕ) (U R : ℕ) → U ≡ userCount b → R ≡ 
     someUnknown U R g ≡ someUnknown (userCount b) (roleCount b) g
 unknown-same b g U R e f = rw (e, f)
 
-module _ (b : List ℕ) (at : Context) (p : ℕ) (g : List ℕ) where
+module _ (rules b : List ℕ) (at : Context) (p : ℕ) (g : List ℕ) where
   pub condition-same : (k : List ℕ) (n sum set : ℕ) → k ≡ tableOf b clauses → n ≡ entryCount g →
-      sum ≡ sumOf (λ r. weight b at r p) g → set ≡ rolesOf g →
+      sum ≡ sumOf (λ r. weight rules b at r p) g → set ≡ rolesOf g →
       permissionHolds k p n sum set ≡
-      permissionHolds (tableOf b clauses) p (entryCount g) (sumOf (λ r. weight b at r p) g) (rolesOf g)
+      permissionHolds (tableOf b clauses) p (entryCount g) (sumOf (λ r. weight rules b at r p) g) (rolesOf g)
   condition-same k n sum set e f h i = rw (e, f, h, i)
 
 -- a group that none of refusals 12 to 15 applies to
@@ -209,11 +209,11 @@ wider-granted U R may can weigh condition g wider h =
     })
 
 -- the law of granting: with an accepted base, a permission that is there and a context in range, for every list
-pub decision-granting : (b : List ℕ) (at : Context) (p : ℕ) (g : List ℕ) →
+pub decision-granting : (rules b : List ℕ) (at : Context) (p : ℕ) (g : List ℕ) →
     refusalOf b ≡ 0 → p < permissionCount b → outOfRange at ≡ false →
-    (decisionOf b at p g ≡ 0) ↔ GrantedBy b at p g
-unfolding decisionOf groupDecision
-decision-granting b at p g ok there fit = rw (ok, lt-ltb _ _ there, fit) (granting _ _ _ _ _ g)
+    (decisionBy rules b at p g ≡ 0) ↔ GrantedBy rules b at p g
+unfolding decisionBy groupDecision
+decision-granting rules b at p g ok there fit = rw (ok, lt-ltb _ _ there, fit) (granting _ _ _ _ _ g)
 
 -- where the head and what is left give 0, the base is accepted, the permission there and the context in range
 pub head-passed : (b : List ℕ) (at : Context) (p left : ℕ) → headed b at p left ≡ 0 →
@@ -225,10 +225,10 @@ head-passed b at p left h =
     (ok, ltb-true _ _ (not-false _ there), in-range, past11)
 
 -- only an accepted base grants, a permission that is there, in a context in range
-pub decision-head : (b : List ℕ) (at : Context) (p : ℕ) (g : List ℕ) → decisionOf b at p g ≡ 0 →
+pub decision-head : (rules b : List ℕ) (at : Context) (p : ℕ) (g : List ℕ) → decisionBy rules b at p g ≡ 0 →
     (refusalOf b ≡ 0) × (p < permissionCount b) × (outOfRange at ≡ false)
-unfolding decisionOf
-decision-head b at p g h = let k = head-passed b at p (groupDecision b at p g) h in (k .0, k .1, k .2)
+unfolding decisionBy
+decision-head rules b at p g h = let k = head-passed b at p (groupDecision rules b at p g) h in (k .0, k .1, k .2)
 
 -- role_num of a group's set is the number of different roles acted in
 pub role-num : (g : List ℕ) → roleNum (rolesOf g) ≡ countBelow 8 (actedIn g)
@@ -244,11 +244,14 @@ sum-at-most weigh g h e =
     let l : sumOf weigh g ≤ entryCount g * 40 = sum-le (λ i. weigh (entryRole g i)) 40 (entryCount g) h in
     omega arith
 
--- the law of granting whole: the decider grants exactly these groups, of every list of numbers
-pub granted-by : (b : List ℕ) (at : Context) (p : ℕ) (g : List ℕ) →
-    (decisionOf b at p g ≡ 0) ↔
-    ((refusalOf b ≡ 0) × (p < permissionCount b) × (outOfRange at ≡ false) × GrantedBy b at p g)
-granted-by b at p g = (
-  λ h. let k = decision-head b at p g h in (k .0, k .1, k .2, decision-granting b at p g (k .0) (k .1) (k .2) .0 h),
-  λ w. decision-granting b at p g (w .0) (w .1) (w .2) .1 (w .3),
+-- the law of granting whole: by the rules of any list or none the decider grants exactly these groups, of every list of
+-- numbers
+pub granted-by : (rules b : List ℕ) (at : Context) (p : ℕ) (g : List ℕ) →
+    (decisionBy rules b at p g ≡ 0) ↔
+    ((refusalOf b ≡ 0) × (p < permissionCount b) × (outOfRange at ≡ false) × GrantedBy rules b at p g)
+granted-by rules b at p g = (
+  λ h.
+      let (ok, there, in-range) = decision-head rules b at p g h in
+      (ok, there, in-range, decision-granting rules b at p g ok there in-range .0 h),
+  λ w. decision-granting rules b at p g (w .0) (w .1) (w .2) .1 (w .3),
 )

@@ -1,2 +1,3 @@
 pub mod Agree
 pub mod Granting
+pub mod Heads

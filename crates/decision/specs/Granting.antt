@@ -25,8 +25,8 @@ pub record Granted (U R : ℕ) (may : ℕ → ℕ → Bool) (weigh : ℕ → ℕ
   pub heavy : (i : ℕ) → i < entryCount g → 0 < weigh (entryRole g i)
   pub holds : condition (entryCount g) (sumOf weigh g) (rolesOf g) ≡ true
 
--- the base grants the group the permission in the context
-abbrev pub GrantedBy : List ℕ → Context → ℕ → List ℕ → Type 0
-GrantedBy b at p g =
-    Granted (userCount b) (roleCount b) (eligible b at p) (λ r. weight b at r p)
+-- the base grants the group the permission in the context, by the rules
+abbrev pub GrantedBy : List ℕ → List ℕ → Context → ℕ → List ℕ → Type 0
+GrantedBy rules b at p g =
+    Granted (userCount b) (roleCount b) (eligible b at p) (λ r. weight rules b at r p)
     (permissionHolds (tableOf b clauses) p) g

@@ -4,11 +4,11 @@ use weights::Context;
 ghost use mathlib.Core.Path.{_≡_};
 ghost use lib.ListN.{length};
 ghost use Rattle.reader.specs.Rules.{refusalOf};
-ghost use Rattle.report.specs.Report.{reportAnswer, Reported};
-ghost use Rattle.report.specs.Demand.{Demanded};
+ghost use Rattle.report.specs.Report.{answerOf, answerLent, ReportedOf, ReportedLent};
+ghost use Rattle.report.specs.Demand.{Demanded, DemandedLent};
 ghost use Rattle.conflicts.specs.Conflicts.{conflictAnswer, conflictBytes};
 ghost use Rattle.exports.specs.Packed.{packed, unpacked};
-ghost use Rattle.decision.specs.Decision.{decisionOf};
+ghost use Rattle.decision.specs.Decision.{decisionOf, decisionLent};
 ghost use Rattle.sheet.specs.Sheets.{opened, signed, asked};
 ghost use Rattle.sheet.specs.Form.{bytesOf, sheetOf};
 ghost use Rattle.shift.specs.Shift.{boundAnswer};
@@ -51,10 +51,10 @@ pub extern "C" fn release_report(
     out: &mut [u8],
 ) -> u64
     ensures answer { λ r. ⌜
-        r ≡ packed (reportAnswer (now (base .entry)) (record { minute = minute; day = day; zone = zone })
+        r ≡ packed (answerOf (now (base .entry)) (record { minute = minute; day = day; zone = zone })
         (length (now (out .entry)))) ⌝ }
     ensures promise { λ r. ⌜
-        Reported (now (base .entry)) (record { minute = minute; day = day; zone = zone })
+        ReportedOf (now (base .entry)) (record { minute = minute; day = day; zone = zone })
         (now (out .entry)) (now (out .exit)) (unpacked r) ⌝ }
     ensures demand { λ r. ⌜
         Demanded (now (base .entry)) (record { minute = minute; day = day; zone = zone })
@@ -62,6 +62,51 @@ pub extern "C" fn release_report(
 {
     let at = Context { minute, day, zone };
     pack(report::report(base, at, out))
+}
+
+// The decision by a resolution list: 0 where the group is granted, else the first of refusals 1 to 9, 22 and 10 to 17
+// that applies.
+#[no_mangle]
+pub extern "C" fn release_decide_by(
+    base: &[u8],
+    permission: u32,
+    minute: u32,
+    day: u32,
+    zone: u32,
+    list: &[u8],
+    group: &[u8],
+) -> u32
+    ensures { λ r. ⌜
+        r ≡ decisionLent (now (list .entry)) (now (base .entry)) (record { minute = minute; day = day; zone = zone })
+        permission (now (group .entry)) ⌝ }
+{
+    let at = Context { minute, day, zone };
+    decision::decide_by(base, permission, at, list, group) as u32
+}
+
+// The release report by a resolution list: as without one, but by the decision with that list, and with refusal 22 of
+// the list after 9. out overlaps neither base nor list.
+#[no_mangle]
+pub extern "C" fn release_report_by(
+    base: &[u8],
+    minute: u32,
+    day: u32,
+    zone: u32,
+    list: &[u8],
+    out: &mut [u8],
+) -> u64
+    ensures answer { λ r. ⌜
+        r ≡ packed (answerLent (now (list .entry)) (now (base .entry))
+        (record { minute = minute; day = day; zone = zone }) (length (now (out .entry)))) ⌝ }
+    ensures promise { λ r. ⌜
+        ReportedLent (now (list .entry)) (now (base .entry)) (record { minute = minute; day = day; zone = zone })
+        (now (out .entry)) (now (out .exit)) (unpacked r) ⌝ }
+    ensures demand { λ r. ⌜
+        DemandedLent (now (list .entry)) (now (base .entry)) (record { minute = minute; day = day; zone = zone })
+        (now (out .entry)) (now (out .exit)) (unpacked r) ⌝ }
+{
+    let at = Context { minute, day, zone };
+    pack(report::report_by(base, at, list, out))
 }
 
 // The conflict list: 0, and the list in out, or the first of refusals 1 to 9 and 18; plus 256 times the count, which

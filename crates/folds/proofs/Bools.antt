@@ -50,6 +50,9 @@ pub or-either : (a b : Bool) → (a || b) ≡ true → (a ≡ true) ⊎ (b ≡ t
 or-either true b h = inl refl
 or-either false b h = inr h
 
+pub or-last : {a b : Bool} → (a || b) ≡ true → a ≡ false → b ≡ true
+or-last h k = rw k at h
+
 -- a test is met or not
 pub met-or-not : (a : Bool) → (a ≡ true) ⊎ (a ≡ false)
 met-or-not true = inl refl

@@ -15,8 +15,9 @@ use Rattle.reader.specs.Tables.{permissionCount, frameRefusal}
 use Rattle.reader.proofs.Accepted.{accepted-frame}
 use Rattle.reader.proofs.Answered.{refusal-in, count-in}
 use Rattle.weights.specs.declared.Context.{Context}
+use Rattle.decision.specs.Decision.{decisionOf}
 use Rattle.report.specs.Smallest.{smallestOf}
-use Rattle.report.specs.Report.{reportRefusal, releasable, reportAnswer, ShownFor, Reported}
+use Rattle.report.specs.Report.{reportRefusal, releasable, reportAnswer, answerOf, ShownFor, ReportedOf}
 use Rattle.release_list.specs.Text.{ascii, lineText, countText, refusedText, releasableText, refusalFor}
 use Rattle.release_list.specs.Text.{reportText, baseOf, contextOf, listingText, Listed}
 use Rattle.release_list.specs.Writing.{Written, Parts, linesText, ReportListed}
@@ -48,19 +49,23 @@ pub record Ready (b after : List ℕ) (r : Answer) : Type 0 where
 
 -- the answer of a report in a buffer of 208 bytes
 module _ (b : List ℕ) (at : Context) (was after : List ℕ) (r : Answer) (size : length was ≡ 208)
-    (d : Reported b at was after r) where
-  answer-is : r ≡ reportAnswer b at 208
-  answer-is = d .answer ∙ ap (reportAnswer b at) size
+    (d : ReportedOf b at was after r) where
+  -- how many permissions have a group
+  abbrev count : ℕ
+  count = releasable (decisionOf b at) (permissionCount b)
+
+  answer-is : r ≡ answerOf b at 208
+  answer-is = d .answer ∙ ap (answerOf b at) size
 
   refusal-is : r .refusal ≡ reportRefusal b at 208
   unfolding reportAnswer
-  refusal-is = ap (λ (x : Answer). x .refusal) answer-is ∙ refusal-in (reportRefusal b at 208) (releasable b at)
+  refusal-is = ap (λ (x : Answer). x .refusal) answer-is ∙ refusal-in (reportRefusal b at 208) count
 
   -- these bytes suffice, so what is printed is the refusal for a buffer that suffices
   printed-is : r .refusal ≡ refusalFor b at
   printed-is = refusal-is ∙ buffer-suffices b at
 
-  shown-where : refusalFor b at ≡ 0 → (p : ℕ) → p < permissionCount b → ShownFor b at p (d .chosen p)
+  shown-where : refusalFor b at ≡ 0 → (p : ℕ) → p < permissionCount b → ShownFor (decisionOf b at) p (d .chosen p)
   shown-where z = d .shown (rw size (buffer-suffices b at ∙ z))
 
   pub refused-listed : (r .refusal ≡ 0 → ⊥) → {out text : List ℕ} {n : ℕ} → 768 ≤ length out →
@@ -82,13 +87,13 @@ module _ (b : List ℕ) (at : Context) (was after : List ℕ) (r : Answer) (size
     unrefused : reportRefusal b at 208 ≡ 0
     unrefused = sym refusal-is ∙ done
 
-    shows : (p : ℕ) → p < permissionCount b → ShownFor b at p (d .chosen p)
+    shows : (p : ℕ) → p < permissionCount b → ShownFor (decisionOf b at) p (d .chosen p)
     shows = d .shown (rw size unrefused)
 
-    count-is : r .count ≡ releasable b at
+    count-is : r .count ≡ count
     unfolding reportAnswer
     count-is =
-        ap (λ (x : Answer). x .count) answer-is ∙ count-in (reportRefusal b at 208) (releasable b at) unrefused
+        ap (λ (x : Answer). x .count) answer-is ∙ count-in (reportRefusal b at 208) count unrefused
 
     count-few : r .count ≤ 16
     count-few = rw count-is (releasable-few b at (d .chosen) unrefused shows)

@@ -3,7 +3,7 @@ use Prim.Native.Nat.{ℕ, _*_, _<_, _≤_}
 use mathlib.Core.Bool.{Bool, true, false, not, cond}
 use mathlib.Core.Path.{_≡_, refl}
 use mathlib.Core.Logic.{⊎-elim}
-use mathlib.Core.List.{List, _++_}
+use mathlib.Core.List.{List, [], _++_}
 use native.Mathlib.Nat.{eq-zero-or-pos}
 use native.Mathlib.Omega.{arith}
 use borrow.Author.Tests.{eqb-true, eq-eqb, le-ltb}
@@ -18,6 +18,7 @@ use Rattle.reader.proofs.Frame.{roles-range, permissions-le, users-le}
 use Rattle.reader.proofs.Accepted.{accepted-frame}
 use Rattle.weights.specs.declared.Context.{Context}
 use Rattle.weights.specs.Contexts.{outOfRange}
+use Rattle.decision.specs.Decision.{decisionOf}
 use Rattle.decision.specs.Groups.{entryCount, entryUser, entryRole}
 use Rattle.decision.proofs.Granting.{granted-by}
 use Rattle.report.specs.Smallest.{smallestOf}
@@ -55,7 +56,7 @@ buffer-suffices b at = by (eqb (refusalOf b) 0) refl
     by false e = refl
 
 -- a group that is shown is small, its users rise, and users and roles have few digits
-module _ (b : List ℕ) (at : Context) (p : ℕ) (g : List ℕ) (shown : ShownFor b at p g) where
+module _ (b : List ℕ) (at : Context) (p : ℕ) (g : List ℕ) (shown : ShownFor (decisionOf b at) p g) where
   count-is : entryCount g ≡ smallestOf b at p
   count-is = let e = shown .number in omega arith
 
@@ -65,13 +66,13 @@ module _ (b : List ℕ) (at : Context) (p : ℕ) (g : List ℕ) (shown : ShownFo
   shown-few : smallestOf b at p ≤ 6
   shown-few =
       ⊎-elim (λ z. omega arith)
-      (λ h. let w = granted-by b at p g .0 (shown .granted h) .3 .few in let e = count-is in omega arith)
+      (λ h. let w = granted-by [] b at p g .0 (shown .granted h) .3 .few in let e = count-is in omega arith)
       (eq-zero-or-pos (smallestOf b at p))
 
   user-below : (i : ℕ) → i < entryCount g → entryUser g i < 100
   user-below i l =
       let e = count-is in
-      let (ok, _, _, w) = granted-by b at p g .0 (shown .granted (omega arith)) in
+      let (ok, _, _, w) = granted-by [] b at p g .0 (shown .granted (omega arith)) in
       let f = accepted-frame b ok in
       let n = users-le b f in
       let u = w .user i l in
@@ -80,7 +81,7 @@ module _ (b : List ℕ) (at : Context) (p : ℕ) (g : List ℕ) (shown : ShownFo
   role-below : (i : ℕ) → i < entryCount g → entryRole g i < 10
   role-below i l =
       let e = count-is in
-      let (ok, _, _, w) = granted-by b at p g .0 (shown .granted (omega arith)) in
+      let (ok, _, _, w) = granted-by [] b at p g .0 (shown .granted (omega arith)) in
       let n = roles-range b (accepted-frame b ok) .1 in
       let r = w .role i l in
       omega arith
@@ -93,32 +94,36 @@ module _ (b : List ℕ) (at : Context) (p : ℕ) (g : List ℕ) (shown : ShownFo
 
 -- a report in a buffer of 208 bytes that isn't refused
 module _ (b : List ℕ) (at : Context) (chosen : ℕ → List ℕ) (ok : reportRefusal b at 208 ≡ 0)
-    (shown : (p : ℕ) → p < permissionCount b → ShownFor b at p (chosen p)) where
+    (shown : (p : ℕ) → p < permissionCount b → ShownFor (decisionOf b at) p (chosen p)) where
   pub permissions-few : permissionCount b ≤ 16
   permissions-few = permissions-le b (accepted-frame b (base-accepted b at 208 ok))
 
+  -- the buffer that held `out`
+  abbrev written : List ℕ → List ℕ
+  written out = reportBytes (decisionOf b at) (permissionCount b) (reportRefusal b at (length out)) chosen out
+
   -- the parts in order, and the bytes behind them as they were
   parts-bytes : (out : List ℕ) → length out ≡ 208 →
-      reportBytes b at chosen out ≡
+      written out ≡
       joinBelow (permissionCount b) (λ p. partBytes (smallestOf b at p) (chosen p)) ++ drop (13 * permissionCount b) out
   unfolding reportBytes
   parts-bytes out e = rw (e, eq-eqb (reportRefusal b at 208) 0 ok)
 
   module _ (out : List ℕ) (e : length out ≡ 208) where
-    number-shown : (p : ℕ) → p < permissionCount b → numberFor (reportBytes b at chosen out) p ≡ smallestOf b at p
+    number-shown : (p : ℕ) → p < permissionCount b → numberFor (written out) p ≡ smallestOf b at p
     number-shown p l =
         rw (parts-bytes out e)
         (number-at (smallestOf b at) chosen (permissionCount b) (drop (13 * permissionCount b) out)
         (λ q h. shown-few b at q (chosen q) (shown q h)) (λ q h. shown q h .number) p l)
 
-    group-shown : (p : ℕ) → p < permissionCount b → groupFor (reportBytes b at chosen out) p ≡ chosen p
+    group-shown : (p : ℕ) → p < permissionCount b → groupFor (written out) p ≡ chosen p
     group-shown p l =
         rw (parts-bytes out e)
         (group-at (smallestOf b at) chosen (permissionCount b) (drop (13 * permissionCount b) out)
         (λ q h. shown-few b at q (chosen q) (shown q h)) (λ q h. shown q h .number) p l)
 
-    pub shown-parts : length (reportBytes b at chosen out) ≡ 208 →
-        Parts (reportBytes b at chosen out) (permissionCount b)
+    pub shown-parts : length (written out) ≡ 208 →
+        Parts (written out) (permissionCount b)
     shown-parts n = let few = permissions-few in record {
       size = omega arith;
       few = λ p l. rw (number-shown p l) (shown-few b at p (chosen p) (shown p l));
@@ -126,11 +131,11 @@ module _ (b : List ℕ) (at : Context) (chosen : ℕ → List ℕ) (ok : reportR
     }
 
     -- the lines of its parts
-    pub shown-lines : linesText (reportBytes b at chosen out) (permissionCount b) ≡
+    pub shown-lines : linesText (written out) (permissionCount b) ≡
         joinBelow (permissionCount b) (λ p. lineText p (smallestOf b at p) (chosen p))
     unfolding linesText
     shown-lines =
-        join-same (lineAt (reportBytes b at chosen out)) (λ p. lineText p (smallestOf b at p) (chosen p))
+        join-same (lineAt (written out)) (λ p. lineText p (smallestOf b at p) (chosen p))
         (permissionCount b) (λ p l. rw (group-shown p l, number-shown p l))
 
   -- 16 lines of at most 47 bytes
@@ -142,7 +147,7 @@ module _ (b : List ℕ) (at : Context) (chosen : ℕ → List ℕ) (ok : reportR
       (λ p l. shown-line b at p (chosen p) (shown p l) (omega arith)) in
       omega arith
 
-  pub releasable-few : releasable b at ≤ 16
+  pub releasable-few : releasable (decisionOf b at) (permissionCount b) ≤ 16
   unfolding releasable
   releasable-few =
       let few = permissions-few in

@@ -11,6 +11,7 @@ use Rattle.folds.specs.Below.{joinBelow}
 use Rattle.reader.specs.Bytes.{word16}
 use Rattle.reader.specs.Tables.{permissionCount}
 use Rattle.weights.specs.declared.Context.{Context}
+use Rattle.decision.specs.Decision.{decisionOf}
 use Rattle.decision.specs.Groups.{entryCount, entryUser, entryRole}
 use Rattle.report.specs.Smallest.{smallestOf}
 use Rattle.report.specs.Report.{reportRefusal, releasable, ShownFor}
@@ -67,7 +68,8 @@ refusalFor b at = reportRefusal b at (13 * permissionCount b)
 unfoldable pub reportText : List ℕ → Context → (ℕ → List ℕ) → List ℕ
 reportText b at chosen =
     cond (eqb (refusalFor b at) 0)
-    (joinBelow (permissionCount b) (λ p. lineText p (smallestOf b at p) (chosen p)) ++ releasableText (releasable b at))
+    (joinBelow (permissionCount b) (λ p. lineText p (smallestOf b at p) (chosen p))
+    ++ releasableText (releasable (decisionOf b at) (permissionCount b)))
     (refusedText (refusalFor b at))
 
 -- the input: minute (2 bytes), day, zone (1 byte each), and then a base
@@ -86,7 +88,7 @@ listingText input chosen =
 pub record Listed (input out after : List ℕ) (n : ℕ) : Type 0 where
   pub chosen : ℕ → List ℕ
   pub shown : 4 ≤ length input → refusalFor (baseOf input) (contextOf input) ≡ 0 →
-      (p : ℕ) → p < permissionCount (baseOf input) → ShownFor (baseOf input) (contextOf input) p (chosen p)
+      (p : ℕ) → p < permissionCount (baseOf input) → ShownFor (decisionOf (baseOf input) (contextOf input)) p (chosen p)
   pub size : n ≡ length (listingText input chosen)
   pub bytes : after ≡ listingText input chosen ++ drop n out
 

@@ -6,6 +6,7 @@ use mathlib.Core.List.{List, _++_}
 use lib.ListN.{length, drop}
 use lib.Seq.{sets}
 use Rattle.folds.specs.Below.{joinBelow}
+use Rattle.decision.specs.Decision.{decisionOf}
 use Rattle.decision.specs.Groups.{entryCount, entryUser}
 use Rattle.reader.specs.Tables.{permissionCount}
 use Rattle.weights.specs.declared.Context.{Context}
@@ -43,6 +44,6 @@ linesText parts n = joinBelow n (lineAt parts)
 -- the report on a base stands as text in the first n bytes of `after`, which held `out`
 pub record ReportListed (b : List ℕ) (at : Context) (out after : List ℕ) (n : ℕ) : Type 0 where
   pub chosen : ℕ → List ℕ
-  pub shown : refusalFor b at ≡ 0 → (p : ℕ) → p < permissionCount b → ShownFor b at p (chosen p)
+  pub shown : refusalFor b at ≡ 0 → (p : ℕ) → p < permissionCount b → ShownFor (decisionOf b at) p (chosen p)
   pub size : n ≡ length (reportText b at chosen)
   pub bytes : after ≡ reportText b at chosen ++ drop n out

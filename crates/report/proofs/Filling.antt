@@ -15,36 +15,34 @@ use lib.Seq.{drop-drop, take-at, drop-at}
 use Rattle.folds.specs.Below.{joinBelow, countBelow}
 use Rattle.folds.proofs.Lists.{join-none, join-more, join-same}
 use Rattle.folds.proofs.Numbers.{count-more}
-use Rattle.weights.specs.declared.Context.{Context}
-use Rattle.decision.specs.Decision.{decisionOf}
-use Rattle.report.specs.Smallest.{smallestOf}
+use Rattle.report.specs.Smallest.{Deciding, smallestBy}
 use Rattle.report.specs.Report.{ShownFor, partBytes}
 use Rattle.report.specs.Parts.{PartFor, Filled}
 use Rattle.report.proofs.Least.{smallest-six}
 use Rattle.report.proofs.Standing.{part-length, parts-length}
 
-module _ (b : List ℕ) (at : Context) where
-  pub at-most-six : (p : ℕ) → smallestOf b at p ≤ 6
-  unfolding smallestOf
-  at-most-six p = smallest-six (λ g. eqb (decisionOf b at p g) 0)
+module _ (decision : Deciding) where
+  pub at-most-six : (p : ℕ) → smallestBy decision p ≤ 6
+  unfolding smallestBy
+  at-most-six p = smallest-six (λ g. eqb (decision p g) 0)
 
-  pub part-13 : (p : ℕ) (g : List ℕ) → ShownFor b at p g → length (partBytes (smallestOf b at p) g) ≡ 13
-  part-13 p g s = part-length (smallestOf b at p) g (at-most-six p) (s .number)
+  pub part-13 : (p : ℕ) (g : List ℕ) → ShownFor decision p g → length (partBytes (smallestBy decision p) g) ≡ 13
+  part-13 p g s = part-length (smallestBy decision p) g (at-most-six p) (s .number)
 
   -- the parts of n permissions
   abbrev parts : (ℕ → List ℕ) → ℕ → List ℕ
-  parts chosen n = joinBelow n (λ p. partBytes (smallestOf b at p) (chosen p))
+  parts chosen n = joinBelow n (λ p. partBytes (smallestBy decision p) (chosen p))
 
-  pub done-length : (chosen : ℕ → List ℕ) (n : ℕ) → ((p : ℕ) → p < n → ShownFor b at p (chosen p)) →
+  pub done-length : (chosen : ℕ → List ℕ) (n : ℕ) → ((p : ℕ) → p < n → ShownFor decision p (chosen p)) →
       length (parts chosen n) ≡ 13 * n
   done-length chosen n shown =
-      parts-length (λ p. partBytes (smallestOf b at p) (chosen p)) n (λ p l. part-13 p (chosen p) (shown p l))
+      parts-length (λ p. partBytes (smallestBy decision p) (chosen p)) n (λ p l. part-13 p (chosen p) (shown p l))
 
-  pub filled-none : (out : List ℕ) → Filled b at 0 out out
+  pub filled-none : (out : List ℕ) → Filled decision 0 out out
   filled-none out = record {
     chosen = λ p. [];
     shown = λ p l. absurd (not-suc-le-zero l);
-    bytes = rw (join-none (λ p. partBytes (smallestOf b at p) []));
+    bytes = rw (join-none (λ p. partBytes (smallestBy decision p) []));
   }
 
   -- the groups chosen, with that of one permission more
@@ -58,20 +56,20 @@ module _ (b : List ℕ) (at : Context) where
   also-other chosen p g q l = rw (ne-eqb q p (λ e. omega arith))
 
   -- the parts with that of one permission more
-  parts-more : (chosen : ℕ → List ℕ) (p : ℕ) (g part : List ℕ) → part ≡ partBytes (smallestOf b at p) g →
+  parts-more : (chosen : ℕ → List ℕ) (p : ℕ) (g part : List ℕ) → part ≡ partBytes (smallestBy decision p) g →
       parts (also chosen p g) (p + 1) ≡ parts chosen p ++ part
   parts-more chosen p g part is =
-      join-more (λ q. partBytes (smallestOf b at q) (also chosen p g q)) p
+      join-more (λ q. partBytes (smallestBy decision q) (also chosen p g q)) p
       ∙ rw (also-here chosen p g p refl, ← is) (ap (λ (l : List ℕ). l ++ part) before)
     where
       before : parts (also chosen p g) p ≡ parts chosen p
       before =
-          join-same (λ q. partBytes (smallestOf b at q) (also chosen p g q))
-          (λ q. partBytes (smallestOf b at q) (chosen q)) p
-          (λ q l. ap (λ (x : List ℕ). partBytes (smallestOf b at q) x) (also-other chosen p g q l))
+          join-same (λ q. partBytes (smallestBy decision q) (also chosen p g q))
+          (λ q. partBytes (smallestBy decision q) (chosen q)) p
+          (λ q l. ap (λ (x : List ℕ). partBytes (smallestBy decision q) x) (also-other chosen p g q l))
 
-  pub filled-more : (p : ℕ) (was out part : List ℕ) → Filled b at p was out → PartFor b at p part →
-      13 * p + 13 ≤ length out → Filled b at (p + 1) was (putMid (13 * p) (13 * p + 13 - 13 * p) out part)
+  pub filled-more : (p : ℕ) (was out part : List ℕ) → Filled decision p was out → PartFor decision p part →
+      13 * p + 13 ≤ length out → Filled decision (p + 1) was (putMid (13 * p) (13 * p + 13 - 13 * p) out part)
   filled-more p was out part f this fit = record {
     chosen = also (f .chosen) p (this .group);
     shown = λ q l. ⊎-elim
@@ -94,9 +92,9 @@ module _ (b : List ℕ) (at : Context) where
   }
 
   -- the count with one permission more
-  pub count-part : (p : ℕ) (part : List ℕ) (count more : ℕ) → PartFor b at p part →
-      count ≡ countBelow p (λ q. ltb 0 (smallestOf b at q)) →
-      more ≡ cond (ltb 0 (getD part 0 0)) 1 0 → count + more ≡ countBelow (p + 1) (λ q. ltb 0 (smallestOf b at q))
+  pub count-part : (p : ℕ) (part : List ℕ) (count more : ℕ) → PartFor decision p part →
+      count ≡ countBelow p (λ q. ltb 0 (smallestBy decision q)) →
+      more ≡ cond (ltb 0 (getD part 0 0)) 1 0 → count + more ≡ countBelow (p + 1) (λ q. ltb 0 (smallestBy decision q))
   count-part p part count more this e f =
-      let k : getD part 0 0 ≡ smallestOf b at p = ap (λ (l : List ℕ). getD l 0 0) (this .bytes) in
-      rw (e, f, k) (sym (count-more (λ q. ltb 0 (smallestOf b at q)) p))
+      let k : getD part 0 0 ≡ smallestBy decision p = ap (λ (l : List ℕ). getD l 0 0) (this .bytes) in
+      rw (e, f, k) (sym (count-more (λ q. ltb 0 (smallestBy decision q)) p))

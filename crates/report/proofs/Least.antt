@@ -17,7 +17,7 @@ use Rattle.folds.proofs.Tests.{any-found, any-some, first-least, first-lt, firs
 use Rattle.reader.proofs.Frame.{roles-range, users-le}
 use Rattle.reader.proofs.Accepted.{accepted-frame}
 use Rattle.weights.specs.declared.Context.{Context}
-use Rattle.decision.specs.Decision.{decisionOf}
+use Rattle.decision.specs.Decision.{decisionBy}
 use Rattle.decision.specs.Groups.{entryCount}
 use Rattle.decision.proofs.Granting.{granted-by}
 use Rattle.report.specs.Smallest.{someGranted, smallest}
@@ -180,12 +180,14 @@ bytes-of t n e user role i l =
     odd : (i % 2 ≡ 0 → ⊥) → getD t (2 * (i / 2) + 1) 0 < 256 → getD t i 0 < 256
     odd z h = let q : 2 * (i / 2) + 1 ≡ i = omega (arith, pos-of-ne-zero z) in rw q at h
 
--- the decision grants only such groups
-pub of-decision : (b : List ℕ) (at : Context) (p : ℕ) → OfBytes (λ g. eqb (decisionOf b at p g) 0)
-of-decision b at p = record {
-  whole = λ t h. let w = granted-by b at p t .0 (eqb-true _ _ h) .3 in (entryCount t, w .some, w .few, w .whole);
+-- the decision grants only such groups, by any rules
+pub of-decision : (rules b : List ℕ) (at : Context) (p : ℕ) → OfBytes (λ g. eqb (decisionBy rules b at p g) 0)
+of-decision rules b at p = record {
+  whole = λ t h.
+      let w = granted-by rules b at p t .0 (eqb-true _ _ h) .3 in
+      (entryCount t, w .some, w .few, w .whole);
   byte = λ t h.
-      let (ok, _, _, w) = granted-by b at p t .0 (eqb-true _ _ h) in
+      let (ok, _, _, w) = granted-by rules b at p t .0 (eqb-true _ _ h) in
       let f = accepted-frame b ok in
       let U = users-le b f in
       let R = roles-range b f .1 in

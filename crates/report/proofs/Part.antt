@@ -24,11 +24,11 @@ use Rattle.weights.specs.Acting.{mayAct}
 use Rattle.weights.specs.Setting.{AreWeights}
 use Rattle.weights.proofs.MayAct.{acting-known}
 use Rattle.weights.proofs.Weigh.{weights-le, weight-high}
-use Rattle.decision.specs.Decision.{eligible, decisionOf}
+use Rattle.decision.specs.Decision.{eligible, decisionBy}
 use Rattle.decision.specs.Conditions.{permissionHolds}
 use Rattle.decision.specs.Granting.{Granted}
 use Rattle.decision.proofs.Granting.{granted-by}
-use Rattle.report.specs.Smallest.{smallestOf}
+use Rattle.report.specs.Smallest.{smallestBy}
 use Rattle.seek.specs.Search.{Answered}
 use Rattle.masks.specs.Sets.{RoleCounts}
 use Rattle.masks.proofs.Made.{checked}
@@ -46,7 +46,7 @@ with-both true false false h = refl
 with-both false b true h = sym (h refl .0)
 with-both false b false h = refl
 
-module _ (b : List ℕ) (at : Context) (p : ℕ) (ok : refusalOf b ≡ 0) where
+module _ (rules b : List ℕ) (at : Context) (p : ℕ) (ok : refusalOf b ≡ 0) where
   -- the sets of a base say who may act in which role
   acting-is : (sets : List ℕ) → ActingSets b sets → (u r : ℕ) → r < 8 →
       inSet (getD sets u 0) r ≡ (ltb u (userCount b) && (ltb r (roleCount b) && mayAct b u r))
@@ -67,24 +67,24 @@ module _ (b : List ℕ) (at : Context) (p : ℕ) (ok : refusalOf b ≡ 0) where
           let out : userCount b ≤ u = omega arith in
           rw (List·getD-eq-default sets 0 long, in-none r, le-ltb _ _ out)
 
-  tables-of : (sets w : List ℕ) → ActingSets b sets → AreWeights b at p w →
-      Tables (userCount b) (roleCount b) (eligible b at p) (λ r. weight b at r p) sets w
+  tables-of : (sets w : List ℕ) → ActingSets b sets → AreWeights rules b at p w →
+      Tables (userCount b) (roleCount b) (eligible b at p) (λ r. weight rules b at r p) sets w
   tables-of sets w acting are = record {
     acting = acting-is sets acting;
     weight = λ r l. are .role r (lt-of-lt-of-le l (roles-range b (accepted-frame b ok) .1));
   }
 
   -- what an accepted base hands to the search
-  pub seeking : (w counts : List ℕ) → AreWeights b at p w → RoleCounts (2 ^ roleCount b) counts →
+  pub seeking : (w counts : List ℕ) → AreWeights rules b at p w → RoleCounts (2 ^ roleCount b) counts →
       Seeking (tableOf b clauses) w nobody (roleCount b) counts
   seeking w counts are counted = record {
     checked = checked b ok;
-    light = record { most = weights-le b ok at p w are };
+    light = record { most = weights-le b ok rules at p w are };
     most = roles-range b (accepted-frame b ok) .1;
     roles = λ r low heavy. ⊎-elim
         (λ t. ltb-true _ _ t)
         (λ t.
-        let z = are .role r low ∙ weight-high b ok at p r (ltb-false r (roleCount b) t) in
+        let z = are .role r low ∙ weight-high b ok rules at p r (ltb-false r (roleCount b) t) in
         absurd (omega arith))
         (met-or-not (ltb r (roleCount b)));
     counted = counted;
@@ -95,34 +95,35 @@ module _ (b : List ℕ) (at : Context) (p : ℕ) (ok : refusalOf b ≡ 0) where
 
   -- what the search finds is the permission's part
   module _ (there : p < permissionCount b) (in-range : outOfRange at ≡ false) (sets w : List ℕ)
-      (acting : ActingSets b sets) (are : AreWeights b at p w)
+      (acting : ActingSets b sets) (are : AreWeights rules b at p w)
       {n : ℕ} {bytes : List ℕ} (a : Answered sets w 0 (holdsWith (tableOf b clauses) p nobody) 6 n bytes) where
     abbrev granted : List ℕ → Bool
-    granted g = eqb (decisionOf b at p g) 0
+    granted g = eqb (decisionBy rules b at p g) 0
 
     is : (t : List ℕ) → (granted t ≡ true) ↔ Granted (userCount b) (roleCount b) (eligible b at p)
-        (λ r. weight b at r p) (permissionHolds (tableOf b clauses) p) t
+        (λ r. weight rules b at r p) (permissionHolds (tableOf b clauses) p) t
     is t = (
-      λ h. granted-by b at p t .0 (eqb-true _ _ h) .3,
-      λ g. eq-eqb _ _ (granted-by b at p t .1 (ok, there, in-range, g)),
+      λ h. granted-by rules b at p t .0 (eqb-true _ _ h) .3,
+      λ g. eq-eqb _ _ (granted-by rules b at p t .1 (ok, there, in-range, g)),
     )
 
     few-roles : roleCount b ≤ 8
     few-roles = roles-range b (accepted-frame b ok) .1
 
-    part-is : {part : List ℕ} → Shown granted part → PartFor b at p part
-    unfolding smallestOf
+    part-is : {part : List ℕ} → Shown granted part → PartFor (decisionBy rules b at) p part
+    unfolding smallestBy
     part-is f = record {
       group = f .group;
       shown = record { number = f .number; granted = λ l. eqb-true _ _ (f .grants l); rising = f .rising };
       bytes = f .bytes;
     }
 
-    pub part-none : n ≡ 7 → PartFor b at p (0 ∷ replicate 12 255)
+    pub part-none : n ≡ 7 → PartFor (decisionBy rules b at) p (0 ∷ replicate 12 255)
     part-none e = part-is
-        (shown-none (tableOf b clauses) p (tables-of sets w acting are) few-roles granted (of-decision b at p) is a e)
+        (shown-none (tableOf b clauses) p (tables-of sets w acting are) few-roles granted
+        (of-decision rules b at p) is a e)
 
-    pub part-found : n ≤ 6 → PartFor b at p (n ∷ bytes)
+    pub part-found : n ≤ 6 → PartFor (decisionBy rules b at) p (n ∷ bytes)
     part-found few =
         part-is (shown-found (tableOf b clauses) p (tables-of sets w acting are) few-roles granted
-        (of-decision b at p) is a few)
+        (of-decision rules b at p) is a few)

@@ -14,7 +14,7 @@ use Rattle.folds.proofs.Numbers.{sum-same, sum-zero, sum-pick}
 use Rattle.reader.proofs.Frame.{users-le}
 use Rattle.reader.proofs.Accepted.{accepted-frame}
 use Rattle.weights.specs.declared.Context.{Context}
-use Rattle.decision.specs.Decision.{decisionOf}
+use Rattle.decision.specs.Decision.{decisionBy}
 use Rattle.decision.specs.Groups.{entryCount, entryUser}
 use Rattle.decision.proofs.Granting.{granted-by}
 use Rattle.report.specs.Demand.{userNum}
@@ -52,10 +52,10 @@ pub users-all : (g : List ℕ) → ((i : ℕ) → i < entryCount g → entryUser
 unfolding userNum
 users-all g = count-values 256 (entryUser g) (entryCount g)
 
--- a granted group has as many users as entries
-pub granted-users : (b : List ℕ) (at : Context) (p : ℕ) (g : List ℕ) → decisionOf b at p g ≡ 0 →
+-- a group granted by any rules has as many users as entries
+pub granted-users : (rules b : List ℕ) (at : Context) (p : ℕ) (g : List ℕ) → decisionBy rules b at p g ≡ 0 →
     userNum g ≡ entryCount g
-granted-users b at p g h =
-    let (ok, _, _, w) = granted-by b at p g .0 h in
+granted-users rules b at p g h =
+    let (ok, _, _, w) = granted-by rules b at p g .0 h in
     let few = users-le b (accepted-frame b ok) in
     users-all g (λ i l. let k = w .user i l in omega arith) (w .different)

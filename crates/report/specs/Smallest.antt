@@ -19,6 +19,14 @@ smallest granted =
     (suc (firstBelow 6 (λ i. someGranted granted (suc i) [])))
     0
 
--- the smallest number of approvers for permission p: the decider, asked about every possible group
-unfoldable pub smallestOf : List ℕ → Context → ℕ → ℕ
-smallestOf b at p = smallest (λ g. eqb (decisionOf b at p g) 0)
+-- a decision: 0 where it grants a group a permission, else a refusal
+abbrev pub Deciding : Type 0
+Deciding = ℕ → List ℕ → ℕ
+
+-- the smallest number of approvers for permission p: the decision, asked about every possible group
+unfoldable pub smallestBy : Deciding → ℕ → ℕ
+smallestBy decision p = smallest (λ g. eqb (decision p g) 0)
+
+-- by the decision without a list
+abbrev pub smallestOf : List ℕ → Context → ℕ → ℕ
+smallestOf b at p = smallestBy (decisionOf b at) p

@@ -14,7 +14,8 @@ ghost use lib.Dec.{ltb};
 ghost use Rattle.reader.specs.Tables.{hierarchy, permissionCount, roleCount, tableOf};
 ghost use Rattle.reader.specs.Rules.{refusalOf};
 ghost use Rattle.weights.specs.Contexts.{outOfRange};
-ghost use Rattle.weights.specs.Setting.{Juniors, FixedBy, ChosenBy};
+ghost use Rattle.weights.specs.Setting.{Juniors, rulesOf, FixedBy, ChosenBy};
+ghost use Rattle.decision.specs.Decision.{decisionBy};
 ghost use Rattle.multisets.specs.Ranks.{first, Starts};
 ghost use Rattle.multisets.specs.Ends.{NextEnds};
 ghost use Rattle.multisets.specs.Levels.{Levels, Blank};
@@ -71,14 +72,14 @@ fn part_for<'a>(
 ) -> Part
     requires { ⌜
         (refusalOf (now base) ≡ 0) × (permission < permissionCount (now base)) × (outOfRange (s .at) ≡ false)
-        × FixedBy (now base) s × ChosenBy (now base) (s .at) (now own) (now inh) × Starts (now starts)
+        × FixedBy (now base) s × ChosenBy (rulesOf s) (now base) (s .at) (now own) (now inh) × Starts (now starts)
         × RoleCounts (2 ^ roleCount (now base)) (now counts)
         × ((sets : List ℕ) × ActingSets (now base) sets × NextEnds sets (now nexts))
         × (first (roleCount (now base)) 7 ≤ length (now sums))
         × Levels (roleCount (now base)) known (now nexts) (now t) (now ends) (now from) (now roles)
         ⌝ }
     ensures { λ p. ⌜
-        PartFor (now (base .entry)) (s .at) permission (p .bytes)
+        PartFor (decisionBy (rulesOf s) (now (base .entry)) (s .at)) permission (p .bytes)
         × Levels (roleCount (now (base .entry))) (p .known) (now (nexts .entry))
         (now (t .exit)) (now (ends .exit)) (now (from .exit)) (now (roles .exit))
         ⌝ }
@@ -162,7 +163,7 @@ fn fill_parts<'a>(
 ) -> u32
     requires { ⌜
         (refusalOf (now base) ≡ 0) × (outOfRange (s .at) ≡ false)
-        × FixedBy (now base) s × ChosenBy (now base) (s .at) (now own) (now inh) × Starts (now starts)
+        × FixedBy (now base) s × ChosenBy (rulesOf s) (now base) (s .at) (now own) (now inh) × Starts (now starts)
         × RoleCounts (2 ^ roleCount (now base)) (now counts)
         × ((sets : List ℕ) × ActingSets (now base) sets × NextEnds sets (now nexts))
         × (first (roleCount (now base)) 7 ≤ length (now sums))
@@ -170,8 +171,9 @@ fn fill_parts<'a>(
         × (13 * permissionCount (now base) ≤ length (now out))
         ⌝ }
     ensures { λ r. ⌜
-        (r ≡ releasable (now (base .entry)) (s .at))
-        × Filled (now (base .entry)) (s .at) (permissionCount (now (base .entry))) (now (out .entry)) (now (out .exit))
+        (r ≡ releasable (decisionBy (rulesOf s) (now (base .entry)) (s .at)) (permissionCount (now (base .entry))))
+        × Filled (decisionBy (rulesOf s) (now (base .entry)) (s .at)) (permissionCount (now (base .entry)))
+        (now (out .entry)) (now (out .exit))
         ⌝ }
 {
     let n = reader::trailer::permission_count(base);
@@ -221,16 +223,17 @@ fn fill_in(
         × (first (roleCount (now base)) 7 ≤ length (now sums)) × (13 * permissionCount (now base) ≤ length (now out))
         ⌝ }
     ensures { λ r. ⌜
-        (r ≡ releasable (now (base .entry)) (s .at))
-        × Filled (now (base .entry)) (s .at) (permissionCount (now (base .entry))) (now (out .entry)) (now (out .exit))
+        (r ≡ releasable (decisionBy (rulesOf s) (now (base .entry)) (s .at)) (permissionCount (now (base .entry))))
+        × Filled (decisionBy (rulesOf s) (now (base .entry)) (s .at)) (permissionCount (now (base .entry)))
+        (now (out .entry)) (now (out .exit))
         ⌝ }
 {
     let d = reader::trailer::role_count(base);
     let users = reader::trailer::user_count(base);
     let nexts = ends::next_ends(sets, users);
-    let chosen = weights::chosen(base, s);
-    let own = chosen.own;
-    let inh = chosen.inh;
+    let mut own = [0u8; 128];
+    let mut inh = [0u8; 128];
+    weights::choose(base, s, &mut own, &mut inh);
     let starts = ranks::table();
     let mut counts = [0u8; 256];
     masks::sets::role_counts(&mut counts, masks::sets::sets_below(d));
@@ -259,8 +262,9 @@ fn fill_few(base: &[u8], s: Fixed, sets: [u8; 24], out: &mut [u8]) -> u32
         × (roleCount (now base) ≤ 5) × (13 * permissionCount (now base) ≤ length (now out))
         ⌝ }
     ensures { λ r. ⌜
-        (r ≡ releasable (now (base .entry)) (s .at))
-        × Filled (now (base .entry)) (s .at) (permissionCount (now (base .entry))) (now (out .entry)) (now (out .exit))
+        (r ≡ releasable (decisionBy (rulesOf s) (now (base .entry)) (s .at)) (permissionCount (now (base .entry))))
+        × Filled (decisionBy (rulesOf s) (now (base .entry)) (s .at)) (permissionCount (now (base .entry)))
+        (now (out .entry)) (now (out .exit))
         ⌝ }
 {
     let mut t = [0u16; 1008];
@@ -288,8 +292,9 @@ fn fill_many(base: &[u8], s: Fixed, sets: [u8; 24], out: &mut [u8]) -> u32
         × (13 * permissionCount (now base) ≤ length (now out))
         ⌝ }
     ensures { λ r. ⌜
-        (r ≡ releasable (now (base .entry)) (s .at))
-        × Filled (now (base .entry)) (s .at) (permissionCount (now (base .entry))) (now (out .entry)) (now (out .exit))
+        (r ≡ releasable (decisionBy (rulesOf s) (now (base .entry)) (s .at)) (permissionCount (now (base .entry))))
+        × Filled (decisionBy (rulesOf s) (now (base .entry)) (s .at)) (permissionCount (now (base .entry)))
+        (now (out .entry)) (now (out .exit))
         ⌝ }
 {
     let mut t = [0u16; 3960];
@@ -317,8 +322,9 @@ pub fn fill(base: &[u8], s: Fixed, sets: [u8; 24], out: &mut [u8]) -> u32
         × (13 * permissionCount (now base) ≤ length (now out))
         ⌝ }
     ensures { λ r. ⌜
-        (r ≡ releasable (now (base .entry)) (s .at))
-        × Filled (now (base .entry)) (s .at) (permissionCount (now (base .entry))) (now (out .entry)) (now (out .exit))
+        (r ≡ releasable (decisionBy (rulesOf s) (now (base .entry)) (s .at)) (permissionCount (now (base .entry))))
+        × Filled (decisionBy (rulesOf s) (now (base .entry)) (s .at)) (permissionCount (now (base .entry)))
+        (now (out .entry)) (now (out .exit))
         ⌝ }
 {
     if reader::trailer::role_count(base) <= 5 {

@@ -24,7 +24,7 @@ use Rattle.weights.specs.Acting.{mayAct}
 use Rattle.weights.specs.Setting.{Juniors}
 use Rattle.weights.proofs.Chains.{senior-chain}
 use Rattle.decision.specs.Groups.{entryCount, entryRole, groupRefusal}
-use Rattle.decision.specs.Decision.{membersOf, groupDecision, decisionOf}
+use Rattle.decision.specs.Decision.{membersOf, groupDecision, decisionBy, decisionOf}
 use Rattle.decision.proofs.Granting.{Members, members-of, short-enough}
 use Rattle.shift.specs.Shift.{distance, weightIn, withWeight, OneWeight, roleOrSenior, touched}
 use Rattle.shift.specs.Shift.{boundOf, changeRefused, boundRefusal, boundAnswer, Bounded}
@@ -48,13 +48,13 @@ role-or-senior b ok i r =
 -- 1 to 9 are given as the decision gives them, for any permission and context
 pub as-checked : (b g : List ℕ) → (refusalOf b ≡ 0 → ⊥) → (i w : ℕ) (at : Context) (p : ℕ) →
     boundRefusal b i w g ≡ decisionOf b at p g
-unfolding boundRefusal decisionOf
+unfolding boundRefusal decisionBy
 as-checked b g bad i w at p = rw (ne-eqb _ _ bad)
 
 -- 12 to 15 are given as the decision gives them, for any permission that is there and any context in range
 pub as-decided : (b g : List ℕ) → refusalOf b ≡ 0 → (membersOf b g ≡ 0 → ⊥) → (i w : ℕ) (at : Context) (p : ℕ) →
     p < permissionCount b → outOfRange at ≡ false → boundRefusal b i w g ≡ decisionOf b at p g
-unfolding boundRefusal decisionOf groupDecision groupRefusal
+unfolding boundRefusal decisionBy groupDecision groupRefusal
 as-decided b g ok some i w at p there in-range =
     rw (ok, lt-ltb _ _ there, in-range, ne-eqb _ _ some)
 
@@ -101,7 +101,7 @@ module _ (b : List ℕ) (i w : ℕ) (g : List ℕ) where
       record { first = a .ok; second = new; there = a .there; replaced = (w, refl) } in
       let is = new-weight b (a .ok) i (a .there) w in
       let theorem = shifts b (withWeight b i w) i one in
-      record { accepted = new; sums = λ at p. rw count (rw is at (theorem .sum-shifts at p g)) }
+      record { accepted = new; sums = λ rules at p. rw count (rw is at (theorem .sum-shifts rules at p g)) }
 
   -- weights of 1 to 5 differ by at most 4, and a group has at most 6 entries
   small : boundRefusal b i w g ≡ 0 → boundOf b i w g ≤ 24

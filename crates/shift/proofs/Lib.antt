@@ -1,3 +1,4 @@
 pub mod Replaced
+pub mod Overriding
 pub mod Shift
 pub mod Laws

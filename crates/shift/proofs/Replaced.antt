@@ -11,6 +11,7 @@ use lib.ListN.{getD, set, length-set}
 use lib.Seq.{getD-set-same, getD-set-other}
 use Rattle.folds.proofs.Bools.{or-neither, met-or-not}
 use Rattle.folds.proofs.Tests.{any-same}
+use Rattle.reader.specs.Bytes.{word16}
 use Rattle.reader.specs.Tables.{policies, width, roleCount, tableOf, tableSize, recordCount, policyCount, frameRefusal}
 use Rattle.reader.specs.Fields.{weightPlace, policyWeight}
 use Rattle.reader.specs.Rules.{outside, policyBad, policiesBad, recordsRefusal, refusalOf}
@@ -25,7 +26,15 @@ abbrev pub replacedIn : List ℕ → ℕ → ℕ → List ℕ
 replacedIn a i w = set a (weightPlace i) w
 
 module _ (a : List ℕ) (i w : ℕ) where
-  -- no policy's role, permission, type or context moves
+  stays : (n : ℕ) → (n ≡ weightPlace i → ⊥) → getD a n 0 ≡ getD (replacedIn a i w) n 0
+  stays n other = sym (getD-set-other a (weightPlace i) n w 0 other)
+
+  stays-word : (n : ℕ) → (n ≡ weightPlace i → ⊥) → (n + 1 ≡ weightPlace i → ⊥) →
+      word16 a n ≡ word16 (replacedIn a i w) n
+  unfolding word16
+  stays-word n low high = rw (stays n low, stays (n + 1) high)
+
+  -- no policy's role, permission, type, context, rank or issue day moves
   pub same-choice : SameChoice a (replacedIn a i w)
   same-choice = record {
     count = rw length-set;
@@ -33,10 +42,9 @@ module _ (a : List ℕ) (i w : ℕ) where
     permission = λ k l. stays (width policies * k + 1) (λ q. omega arith);
     type = λ k l. stays (width policies * k + 3) (λ q. omega arith);
     context = λ k l. stays (width policies * k + 4) (λ q. omega arith);
+    rank = λ k l. stays (width policies * k + 5) (λ q. omega arith);
+    day = λ k l. stays-word (width policies * k + 6) (λ q. omega arith) (λ q. omega arith);
   }
-    where
-      stays : (n : ℕ) → (n ≡ weightPlace i → ⊥) → getD a n 0 ≡ getD (replacedIn a i w) n 0
-      stays n other = sym (getD-set-other a (weightPlace i) n w 0 other)
 
   -- nor another one's weight
   pub other-weight : (k : ℕ) → (k ≡ i → ⊥) → policyWeight (replacedIn a i w) k ≡ policyWeight a k

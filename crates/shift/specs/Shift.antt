@@ -36,9 +36,9 @@ pub record OneWeight (b c : List ℕ) (i : ℕ) : Type 0 where
   pub there : i < policyCount b
   pub replaced : (w : ℕ) × (c ≡ withWeight b i w)
 
--- the sum of the roles' weights of a group for permission p, attribute 1
-abbrev pub sumBy : List ℕ → Context → ℕ → List ℕ → ℕ
-sumBy b at p g = sumOf (λ r. weight b at r p) g
+-- the sum of the roles' weights of a group for permission p, attribute 1, by the rules of a list
+abbrev pub sumBy : List ℕ → List ℕ → Context → ℕ → List ℕ → ℕ
+sumBy rules b at p g = sumOf (λ r. weight rules b at r p) g
 
 -- role r is policy i's role or senior to it
 unfoldable pub roleOrSenior : List ℕ → ℕ → ℕ → Bool
@@ -52,16 +52,18 @@ unfoldable pub touched : List ℕ → ℕ → List ℕ → ℕ
 unfolding countBelow roleOrSenior
 touched b i g = countBelow (entryCount g) (λ k. roleOrSenior b i (entryRole g k))
 
--- what the theorem says of bases b and c that differ only in the weight of policy i, for every context and permission
--- number: the weight of a role that is the policy's or senior to it shifts by at most the difference of the two
--- weights, that of any other role stays, and of any list of numbers as a group the sums of weights differ by at most
--- the difference times the number of entries in such roles
+-- what the theorem says of bases b and c that differ only in the weight of policy i, by the rules of every list and
+-- without one, for every context and permission number: the weight of a role that is the policy's or senior to it
+-- shifts by at most the difference of the two weights, that of any other role stays, and of any list of numbers as a
+-- group the sums of weights differ by at most the difference times the number of entries in such roles
 pub record Shifts (b c : List ℕ) (i : ℕ) : Type 0 where
-  pub role-shifts : (at : Context) (p r : ℕ) → roleOrSenior b i r ≡ true →
-      distance (weight b at r p) (weight c at r p) ≤ distance (weightIn b i) (weightIn c i)
-  pub role-stays : (at : Context) (p r : ℕ) → roleOrSenior b i r ≡ false → weight b at r p ≡ weight c at r p
-  pub sum-shifts : (at : Context) (p : ℕ) (g : List ℕ) →
-      distance (sumBy b at p g) (sumBy c at p g) ≤ distance (weightIn b i) (weightIn c i) * touched b i g
+  pub role-shifts : (rules : List ℕ) (at : Context) (p r : ℕ) → roleOrSenior b i r ≡ true →
+      distance (weight rules b at r p) (weight rules c at r p) ≤ distance (weightIn b i) (weightIn c i)
+  pub role-stays : (rules : List ℕ) (at : Context) (p r : ℕ) → roleOrSenior b i r ≡ false →
+      weight rules b at r p ≡ weight rules c at r p
+  pub sum-shifts : (rules : List ℕ) (at : Context) (p : ℕ) (g : List ℕ) →
+      distance (sumBy rules b at p g) (sumBy rules c at p g)
+      ≤ distance (weightIn b i) (weightIn c i) * touched b i g
 
 -- the bound where policy i gets the weight w: the difference of the two weights times that number
 unfoldable pub boundOf : List ℕ → ℕ → ℕ → List ℕ → ℕ
@@ -83,9 +85,9 @@ boundRefusal b i w g =
 abbrev pub boundAnswer : List ℕ → ℕ → ℕ → List ℕ → Answer
 boundAnswer b i w g = answered (boundRefusal b i w g) (boundOf b i w g)
 
--- what an answer of 0 says: the base with that weight is accepted, and for every permission and context the group's two
--- sums differ by at most the count
+-- what an answer of 0 says: the base with that weight is accepted, and by the rules of every list and without one, for
+-- every permission and context, the group's two sums differ by at most the count
 pub record Bounded (b : List ℕ) (i w : ℕ) (g : List ℕ) : Type 0 where
   pub accepted : refusalOf (withWeight b i w) ≡ 0
-  pub sums : (at : Context) (p : ℕ) →
-      distance (sumBy b at p g) (sumBy (withWeight b i w) at p g) ≤ boundAnswer b i w g .count
+  pub sums : (rules : List ℕ) (at : Context) (p : ℕ) →
+      distance (sumBy rules b at p g) (sumBy rules (withWeight b i w) at p g) ≤ boundAnswer b i w g .count

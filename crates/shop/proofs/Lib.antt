@@ -1,2 +1,4 @@
 pub mod Marked
 pub mod Reached
+pub mod Resolved
+pub mod Overridden

@@ -19,7 +19,7 @@ use Rattle.weights.specs.Acting.{mayAct}
 use Rattle.decision.specs.Conditions.{permissionHolds}
 use Rattle.decision.specs.Groups.{sumOf, lengthRefused, someUnknown, standsBefore, someTwice, someIneligible}
 use Rattle.decision.specs.Groups.{someWeightless, membersRefusal}
-use Rattle.decision.specs.Decision.{groupDecision, decisionOf}
+use Rattle.decision.specs.Decision.{groupDecision, decisionBy}
 use Rattle.related.specs.Related.{related, fits, bothFit, someValueFits, meetable, compatible, meetsSome}
 use Rattle.related.proofs.Relating.{related-pairs, whole-contexts}
 use Rattle.shop.specs.Shop.{shop, withParameter, upTo600, from600, before600, before0, edges}
@@ -40,7 +40,7 @@ unfolding shop withParameter edges
     recordsRefusal refusalOf
     contextHolds weight
     outOfRange lengthRefused someUnknown someTwice standsBefore someIneligible heldBy mayAct membersRefusal
-    someWeightless sumOf permissionHolds groupDecision decisionOf
+    someWeightless sumOf permissionHolds groupDecision decisionBy
     fits bothFit someValueFits meetable compatible
 marked =
     record {

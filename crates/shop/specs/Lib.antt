@@ -1,3 +1,5 @@
 pub mod Shop
 pub mod Marked
 pub mod Reached
+pub mod Resolved
+pub mod Overridden

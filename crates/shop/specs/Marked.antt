@@ -28,32 +28,32 @@ pub record Marked : Type 0 where
   pub size : length shop ≡ 114
   pub passes : refusalOf shop ≡ 0
   -- 1. "Minute 600: the weights are 5, 2, 1.", on every day and in every zone
-  pub manager-600 : (d z : ℕ) → weight shop (at 600 d z) manager permission ≡ 5
-  pub buyer-600 : (d z : ℕ) → weight shop (at 600 d z) buyer permission ≡ 2
-  pub clerk-600 : (d z : ℕ) → weight shop (at 600 d z) clerk permission ≡ 1
+  pub manager-600 : (d z : ℕ) → weight [] shop (at 600 d z) manager permission ≡ 5
+  pub buyer-600 : (d z : ℕ) → weight [] shop (at 600 d z) buyer permission ≡ 2
+  pub clerk-600 : (d z : ℕ) → weight [] shop (at 600 d z) clerk permission ≡ 1
   -- 2. "Minute 480: 4, 1, 0."
-  pub manager-480 : (d z : ℕ) → weight shop (at 480 d z) manager permission ≡ 4
-  pub buyer-480 : (d z : ℕ) → weight shop (at 480 d z) buyer permission ≡ 1
-  pub clerk-480 : (d z : ℕ) → weight shop (at 480 d z) clerk permission ≡ 0
+  pub manager-480 : (d z : ℕ) → weight [] shop (at 480 d z) manager permission ≡ 4
+  pub buyer-480 : (d z : ℕ) → weight [] shop (at 480 d z) buyer permission ≡ 1
+  pub clerk-480 : (d z : ℕ) → weight [] shop (at 480 d z) clerk permission ≡ 0
   -- 3. "Minutes 540 and 1020: the clerk has 1; at 539 and 1021, 0."
-  pub clerk-540 : (d z : ℕ) → weight shop (at 540 d z) clerk permission ≡ 1
-  pub clerk-1020 : (d z : ℕ) → weight shop (at 1020 d z) clerk permission ≡ 1
-  pub clerk-539 : (d z : ℕ) → weight shop (at 539 d z) clerk permission ≡ 0
-  pub clerk-1021 : (d z : ℕ) → weight shop (at 1021 d z) clerk permission ≡ 0
+  pub clerk-540 : (d z : ℕ) → weight [] shop (at 540 d z) clerk permission ≡ 1
+  pub clerk-1020 : (d z : ℕ) → weight [] shop (at 1020 d z) clerk permission ≡ 1
+  pub clerk-539 : (d z : ℕ) → weight [] shop (at 539 d z) clerk permission ≡ 0
+  pub clerk-1021 : (d z : ℕ) → weight [] shop (at 1021 d z) clerk permission ≡ 0
   -- 4. "Minute 600, manager alone: 17, sum 5 but one entry.", on every day and in every zone in range
   pub alone : (d z : ℕ) → outOfRange (at 600 d z) ≡ false → decisionOf shop (at 600 d z) permission managerAlone ≡ 17
-  pub alone-sum : (d z : ℕ) → sumOf (λ r. weight shop (at 600 d z) r permission) managerAlone ≡ 5
+  pub alone-sum : (d z : ℕ) → sumOf (λ r. weight [] shop (at 600 d z) r permission) managerAlone ≡ 5
   pub alone-entries : entryCount managerAlone ≡ 1
   -- 5. "Minute 600, manager and clerk: 0, sum 6.", with either clerk
   pub two-with-2 : (d z : ℕ) → outOfRange (at 600 d z) ≡ false →
       decisionOf shop (at 600 d z) permission (managerAndClerk 2) ≡ 0
   pub two-with-3 : (d z : ℕ) → outOfRange (at 600 d z) ≡ false →
       decisionOf shop (at 600 d z) permission (managerAndClerk 3) ≡ 0
-  pub sum-with-2 : (d z : ℕ) → sumOf (λ r. weight shop (at 600 d z) r permission) (managerAndClerk 2) ≡ 6
-  pub sum-with-3 : (d z : ℕ) → sumOf (λ r. weight shop (at 600 d z) r permission) (managerAndClerk 3) ≡ 6
+  pub sum-with-2 : (d z : ℕ) → sumOf (λ r. weight [] shop (at 600 d z) r permission) (managerAndClerk 2) ≡ 6
+  pub sum-with-3 : (d z : ℕ) → sumOf (λ r. weight [] shop (at 600 d z) r permission) (managerAndClerk 3) ≡ 6
   -- 6. "Minute 600, buyer and both clerks: 17, sum 4."
   pub three : (d z : ℕ) → outOfRange (at 600 d z) ≡ false → decisionOf shop (at 600 d z) permission buyerAndClerks ≡ 17
-  pub three-sum : (d z : ℕ) → sumOf (λ r. weight shop (at 600 d z) r permission) buyerAndClerks ≡ 4
+  pub three-sum : (d z : ℕ) → sumOf (λ r. weight [] shop (at 600 d z) r permission) buyerAndClerks ≡ 4
   -- 7. "Minute 480, manager and clerk: 16.", with either clerk
   pub weightless-with-2 : (d z : ℕ) → outOfRange (at 480 d z) ≡ false →
       decisionOf shop (at 480 d z) permission (managerAndClerk 2) ≡ 16

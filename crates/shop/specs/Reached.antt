@@ -1,5 +1,5 @@
 -- Request Three's bound on the small shop: there no smaller number holds, whether a weight rises or falls; and it looks
--- at the policy's role alone.
+-- at the policy's role alone, and at no list.
 use Prim.Native.Nat.{ℕ}
 use mathlib.Core.Path.{_≡_}
 use mathlib.Core.List.{List, [], _∷_}
@@ -37,24 +37,31 @@ unfoldable pub behind : List ℕ
 unfolding shop
 behind = set shop 70 buyer
 
+-- the same with the weight 3 (byte 72)
+unfoldable pub heavierBehind : List ℕ
+unfolding behind
+heavierBehind = set behind 72 3
+
 -- where policy i gets the weight w, the bound for one of each is n
 pub record BoundAs (b : List ℕ) (i w n : ℕ) : Type 0 where
   pub accepted : refusalOf (withWeight b i w) ≡ 0
   pub answer : boundAnswer b i w oneOfEach ≡ record { refusal = 0; count = n }
 
--- and at minute 600, on every day and in every zone, the two sums differ by n
-pub record ReachedAs (b : List ℕ) (i w n : ℕ) : Type 0 where
+-- and by the rules, at minute 600, on every day and in every zone, the two sums differ by m
+pub record MovedAs (rules b : List ℕ) (i w n m : ℕ) : Type 0 where
   pub bound : BoundAs b i w n
   pub sums : (d z : ℕ) →
-      distance (sumBy b (at 600 d z) permission oneOfEach)
-      (sumBy (withWeight b i w) (at 600 d z) permission oneOfEach)
-      ≡ n
+      distance (sumBy rules b (at 600 d z) permission oneOfEach)
+      (sumBy rules (withWeight b i w) (at 600 d z) permission oneOfEach)
+      ≡ m
 
--- or they don't differ at all
-pub record UnmovedAs (b : List ℕ) (i w n : ℕ) : Type 0 where
-  pub bound : BoundAs b i w n
-  pub sums : (d z : ℕ) →
-      sumBy b (at 600 d z) permission oneOfEach ≡ sumBy (withWeight b i w) (at 600 d z) permission oneOfEach
+-- without a list they differ by n
+abbrev pub ReachedAs : List ℕ → ℕ → ℕ → ℕ → Type 0
+ReachedAs b i w n = MovedAs [] b i w n n
+
+-- or not at all
+abbrev pub UnmovedAs : List ℕ → ℕ → ℕ → ℕ → Type 0
+UnmovedAs b i w n = MovedAs [] b i w n 0
 
 pub record Reached : Type 0 where
   -- the manager's weight falls from 3 to 1: one entry
@@ -68,3 +75,6 @@ pub record Reached : Type 0 where
   -- only the policy's role is looked at: not its type and its context, nor whether another goes before it
   pub by-role-alone : UnmovedAs idle clerksPolicy 5 12
   pub by-role-behind : UnmovedAs behind clerksPolicy 5 8
+  -- the buyer's rises from 1 to 5, past the 3 of the buyer's other policy: by rule 2 that one counts then
+  pub in-table-order : ReachedAs heavierBehind buyersPolicy 5 8
+  pub by-weight : MovedAs (2 ∷ []) heavierBehind buyersPolicy 5 8 4

@@ -1,7 +1,12 @@
 pub mod Agree
 pub mod Chains
+pub mod Order
+pub mod Foremost
+pub mod Lending
 pub mod Choice
+pub mod Resolving
 pub mod MayAct
 pub mod Steps
 pub mod Weigh
+pub mod Overrides
 pub mod Ranges

@@ -8,21 +8,20 @@ use native.Mathlib.Omega.{arith}
 use native.Mathlib.Nat.{lt-of-lt-of-le, lt-irrefl, not-suc-le-zero, add-zero}
 use native.Mathlib.Numerals.{one-add}
 use borrow.Author.Tests.{ne-eqb, lt-ltb}
-use lib.Dec.{ltb, eqb}
-use lib.ListN.{getD}
+use lib.Dec.{ltb, eqb, lit<}
+use lib.ListN.{length, getD}
 use Rattle.folds.specs.Below.{sumBelow}
 use Rattle.folds.specs.Sets.{inSet}
 use Rattle.folds.proofs.Bools.{met-or-not, or-right}
 use Rattle.folds.proofs.Tests.{any-at, any-each}
 use Rattle.folds.proofs.Numbers.{sum-same, sum-tail, sum-split, sum-le, sum-none, sum-one, sum-zero, sum-pick}
-use Rattle.reader.specs.Tables.{hierarchy, contexts, policies, roleCount, tableOf, recordCount}
+use Rattle.reader.specs.Tables.{hierarchy, contexts, policies, roleCount, tableCount, tableOf, recordCount}
 use Rattle.reader.specs.Fields.{policyRole, policyPermission, policyContext}
 use Rattle.reader.specs.Rules.{policyBad, policiesBad, refusalOf}
-use Rattle.reader.proofs.Frame.{roles-range, permissions-le}
+use Rattle.reader.proofs.Frame.{roles-range, permissions-le, count-limit, table-length}
 use Rattle.reader.proofs.Accepted.{accepted, policy-fine}
 use Rattle.weights.specs.declared.Context.{Context}
 use Rattle.weights.specs.declared.Fixed.{Fixed}
-use Rattle.weights.specs.declared.ChosenWeights.{ChosenWeights}
 use Rattle.weights.specs.Contexts.{contextHolds}
 use Rattle.weights.specs.Seniority.{Chain, seniorTo}
 use Rattle.weights.specs.Weights.{chosenWeight, anyType, typeOne, own, inh, share, weight}
@@ -55,35 +54,42 @@ module _ (b : List ℕ) (ok : refusalOf b ≡ 0) where
       let few = permissions-le b (accepted b ok .frame) in
       policies-wider _ _ 8 16 (tableOf b policies) small few (accepted b ok .policies)
 
+  -- A has at most 64 records of 8 bytes
+  pub policies-short : length (tableOf b policies) ≤ 512
+  policies-short =
+      let frame = accepted b ok .frame in
+      let few : tableCount b policies ≤ 64 = count-limit b frame policies (lit< tt) in
+      omega (arith, table-length b frame policies (lit< tt))
+
   pub policies-fine : policiesBad 8 256 (tableOf b policies) ≡ false
   policies-fine = policies-wider 8 16 8 256 (tableOf b policies) (omega arith) (omega arith) policies-small
 
   -- no policy that counts weighs more than 5
-  pub chosen-five : (inForce f : ℕ → Bool) (p r : ℕ) →
-      chosenWeight inForce f (tableOf b policies) (recordCount policies (tableOf b policies)) r p ≤ 5
-  chosen-five inForce f p r =
-      chosen-le inForce f (tableOf b policies) r p 5 _
+  pub chosen-five : (rules : List ℕ) (inForce f : ℕ → Bool) (p r : ℕ) →
+      chosenWeight rules inForce f (tableOf b policies) (recordCount policies (tableOf b policies)) r p ≤ 5
+  chosen-five rules inForce f p r =
+      chosen-le rules inForce f (tableOf b policies) r p 5 _
       (λ i l. policy-fine 8 16 (tableOf b policies) i policies-small l .weight-le)
 
   -- there is no policy of a role at R or above
-  pub chosen-high : (inForce f : ℕ → Bool) (p r : ℕ) → roleCount b ≤ r →
-      chosenWeight inForce f (tableOf b policies) (recordCount policies (tableOf b policies)) r p ≡ 0
-  chosen-high inForce f p r h =
-      chosen-zero inForce f (tableOf b policies) r p _
+  pub chosen-high : (rules : List ℕ) (inForce f : ℕ → Bool) (p r : ℕ) → roleCount b ≤ r →
+      chosenWeight rules inForce f (tableOf b policies) (recordCount policies (tableOf b policies)) r p ≡ 0
+  chosen-high rules inForce f p r h =
+      chosen-zero rules inForce f (tableOf b policies) r p _
       (λ i l. let g = policy-fine _ _ (tableOf b policies) i (accepted b ok .policies) l .role in
       rw (ne-eqb (policyRole (tableOf b policies) i) r (λ q. omega arith)))
 
-  module _ (at : Context) (p : ℕ) where
-    pub own-le : (r : ℕ) → own b at r p ≤ 5
+  module _ (rules : List ℕ) (at : Context) (p : ℕ) where
+    pub own-le : (r : ℕ) → own rules b at r p ≤ 5
     unfolding own
-    own-le r = chosen-five (contextHolds at (tableOf b contexts)) anyType p r
+    own-le r = chosen-five rules (contextHolds at (tableOf b contexts)) anyType p r
 
-    pub inh-le : (r : ℕ) → inh b at r p ≤ 5
+    pub inh-le : (r : ℕ) → inh rules b at r p ≤ 5
     unfolding inh
-    inh-le r = chosen-five (contextHolds at (tableOf b contexts)) typeOne p r
+    inh-le r = chosen-five rules (contextHolds at (tableOf b contexts)) typeOne p r
 
     -- nothing comes from a role that isn't a junior: r itself, one with a smaller number, one at R or above
-    pub share-none : (r j : ℕ) → (r < j → j < roleCount b → ⊥) → share b at p r j ≡ 0
+    pub share-none : (r j : ℕ) → (r < j → j < roleCount b → ⊥) → share rules b at p r j ≡ 0
     share-none r j h =
         ⊎-elim
         (λ e. let d = senior-down (roleCount b) (tableOf b hierarchy) small (accepted b ok .hierarchy) r j e in
@@ -91,41 +97,43 @@ module _ (b : List ℕ) (ok : refusalOf b ≡ 0) where
         (λ e. rw e) (met-or-not (seniorTo (tableOf b hierarchy) r j))
 
     -- a role hands nothing on to itself
-    pub self-none : (r : ℕ) → share b at p r r ≡ 0
+    pub self-none : (r : ℕ) → share rules b at p r r ≡ 0
     self-none r = share-none r r (λ l k. lt-irrefl r l)
 
-    share-le : (r j : ℕ) → share b at p r j ≤ 5
+    share-le : (r j : ℕ) → share rules b at p r j ≤ 5
     share-le r j = given-le (seniorTo (tableOf b hierarchy) r j) (inh-le j)
 
     -- role 0 is nobody's junior, so at most seven shares come together
-    shares-le : (r n : ℕ) → n ≤ 8 → sumBelow n (share b at p r) ≤ 35
-    shares-le r zero h = rw (sum-none (share b at p r)) (omega arith)
+    shares-le : (r n : ℕ) → n ≤ 8 → sumBelow n (share rules b at p r) ≤ 35
+    shares-le r zero h = rw (sum-none (share rules b at p r)) (omega arith)
     shares-le r (suc n) h =
-        let later : ℕ → ℕ = λ i. share b at p r (1 + i) in
+        let later : ℕ → ℕ = λ i. share rules b at p r (1 + i) in
         let l : sumBelow n later ≤ n * 5 = sum-le later 5 n (λ i l. share-le r (1 + i)) in
         let none = share-none r 0 (λ l k. absurd (not-suc-le-zero l)) in
-        rw (← one-add n, sum-split (share b at p r) 1 n, sum-one (share b at p r), none) (omega arith)
+        rw (← one-add n, sum-split (share rules b at p r) 1 n, sum-one (share rules b at p r), none) (omega arith)
 
     -- each junior counts once: its share, and those of the others
     pub weight-once : (r j : ℕ) → Chain (tableOf b hierarchy) r j →
-        weight b at r p
-        ≡ own b at r p + (inh b at j p + sumBelow (roleCount b) (λ k. cond (eqb k j) 0 (share b at p r k)))
+        weight rules b at r p
+        ≡ own rules b at r p
+        + (inh rules b at j p + sumBelow (roleCount b) (λ k. cond (eqb k j) 0 (share rules b at p r k)))
     unfolding weight
     weight-once r j c =
         let e = senior-chain (roleCount b) (tableOf b hierarchy) small (accepted b ok .hierarchy) r j .1 c in
         let d = senior-down (roleCount b) (tableOf b hierarchy) small (accepted b ok .hierarchy) r j e in
-        let q : share b at p r j ≡ inh b at j p = rw e in
-        ap (λ (x : ℕ). own b at r p + x)
-        (sum-pick (share b at p r) (roleCount b) j (d .1)
-        ∙ ap (λ (x : ℕ). x + sumBelow (roleCount b) (λ k. cond (eqb k j) 0 (share b at p r k))) q)
+        let q : share rules b at p r j ≡ inh rules b at j p = rw e in
+        ap (λ (x : ℕ). own rules b at r p + x)
+        (sum-pick (share rules b at p r) (roleCount b) j (d .1)
+        ∙ ap (λ (x : ℕ). x + sumBelow (roleCount b) (λ k. cond (eqb k j) 0 (share rules b at p r k))) q)
 
     -- a role without juniors has its own weight alone, whatever the types of its policies
-    pub weight-alone : (r : ℕ) → ((j : ℕ) → Chain (tableOf b hierarchy) r j → ⊥) → weight b at r p ≡ own b at r p
+    pub weight-alone : (r : ℕ) → ((j : ℕ) → Chain (tableOf b hierarchy) r j → ⊥) →
+        weight rules b at r p ≡ own rules b at r p
     unfolding weight
     weight-alone r h =
-        rw (sum-zero (share b at p r) (roleCount b) (λ j l. none j)) (add-zero _)
+        rw (sum-zero (share rules b at p r) (roleCount b) (λ j l. none j)) (add-zero _)
       where
-        none : (j : ℕ) → share b at p r j ≡ 0
+        none : (j : ℕ) → share rules b at p r j ≡ 0
         none j =
             let chain = senior-chain (roleCount b) (tableOf b hierarchy) small (accepted b ok .hierarchy) r j in
             ⊎-elim
@@ -133,16 +141,16 @@ module _ (b : List ℕ) (ok : refusalOf b ≡ 0) where
             (λ e. rw e) (met-or-not (seniorTo (tableOf b hierarchy) r j))
 
     -- a weight is at most 40
-    pub weight-le : (r : ℕ) → weight b at r p ≤ 40
+    pub weight-le : (r : ℕ) → weight rules b at r p ≤ 40
     unfolding weight
     weight-le r = let o = own-le r in let s = shares-le r (roleCount b) small in omega arith
 
     -- the weight of a role at R or above is 0
-    pub weight-high : (r : ℕ) → roleCount b ≤ r → weight b at r p ≡ 0
+    pub weight-high : (r : ℕ) → roleCount b ≤ r → weight rules b at r p ≡ 0
     unfolding weight own
     weight-high r h =
-        let none = sum-zero (share b at p r) (roleCount b) (λ j l. share-none r j (λ a c. omega arith)) in
-        rw (chosen-high (contextHolds at (tableOf b contexts)) anyType p r h, none)
+        let none = sum-zero (share rules b at p r) (roleCount b) (λ j l. share-none r j (λ a c. omega arith)) in
+        rw (chosen-high rules (contextHolds at (tableOf b contexts)) anyType p r h, none)
 
 -- what stands at the places is at most 5, where that holds of each role and permission
 placed-light : {f : ℕ → ℕ → ℕ} {v : List ℕ} → Placed f v → ((r p : ℕ) → f r p ≤ 5) → Light v
@@ -170,41 +178,42 @@ module _ (b : List ℕ) (ok : refusalOf b ≡ 0) (s : Fixed) (fixed : FixedBy b 
           inForceBy (s .contexts) (policyContext a i) ≡ holds (policyContext a i)
       numbered k e = rw e (rw e at (fixed .holding .number (policyContext a i) k))
 
-  same : (o : ℕ → Bool) (r p : ℕ) →
-      chosenWeight (inForceBy (s .contexts)) o a (recordCount policies a) r p
-      ≡ chosenWeight holds o a (recordCount policies a) r p
-  same o r p = chosen-same (inForceBy (s .contexts)) holds o a r p _ agrees
+  same : (rules : List ℕ) (o : ℕ → Bool) (r p : ℕ) →
+      chosenWeight rules (inForceBy (s .contexts)) o a (recordCount policies a) r p
+      ≡ chosenWeight rules holds o a (recordCount policies a) r p
+  same rules o r p = chosen-same rules (inForceBy (s .contexts)) holds o a r p _ agrees
 
-  pub chosen-by : (f : ChosenWeights) → AreChosen (s .contexts) a (recordCount policies a) f →
-      ChosenBy b (s .at) (f .own) (f .inh)
+  pub chosen-by : (rules : List ℕ) {owns inhs : List ℕ} →
+      AreChosen rules (s .contexts) a (recordCount policies a) owns inhs → ChosenBy rules b (s .at) owns inhs
   unfolding own inh
-  chosen-by f are =
-      let owns : Placed (own b (s .at)) (f .own) =
-      record { place = λ r p l m. are .any .place r p l m ∙ same anyType r p } in
-      let inhs : Placed (inh b (s .at)) (f .inh) =
-      record { place = λ r p l m. are .one .place r p l m ∙ same typeOne r p } in
+  chosen-by rules {owns} {inhs} are =
+      let own-placed : Placed (own rules b (s .at)) owns =
+      record { place = λ r p l m. are .any .place r p l m ∙ same rules anyType r p } in
+      let inh-placed : Placed (inh rules b (s .at)) inhs =
+      record { place = λ r p l m. are .one .place r p l m ∙ same rules typeOne r p } in
       record {
-        own-at = owns;
-        inh-at = inhs;
-        own-light = placed-light owns (λ r p. own-le b ok (s .at) p r);
-        inh-light = placed-light inhs (λ r p. inh-le b ok (s .at) p r);
+        own-at = own-placed;
+        inh-at = inh-placed;
+        own-light = placed-light own-placed (λ r p. own-le b ok rules (s .at) p r);
+        inh-light = placed-light inh-placed (λ r p. inh-le b ok rules (s .at) p r);
       }
 
 -- own weights and what juniors hand on are the weights
-pub weigh : (b : List ℕ) (at : Context) → refusalOf b ≡ 0 → (p : ℕ) {owns inhs juniors w : List ℕ} → p < 16 →
-    ChosenBy b at owns inhs → Juniors (tableOf b hierarchy) juniors → Summed owns inhs juniors p 8 w →
-    AreWeights b at p w
+pub weigh : (rules b : List ℕ) (at : Context) → refusalOf b ≡ 0 → (p : ℕ) {owns inhs juniors w : List ℕ} → p < 16 →
+    ChosenBy rules b at owns inhs → Juniors (tableOf b hierarchy) juniors → Summed owns inhs juniors p 8 w →
+    AreWeights rules b at p w
 unfolding weight
-weigh b at ok p {owns} {inhs} {juniors} there chosen below sum =
+weigh rules b at ok p {owns} {inhs} {juniors} there chosen below sum =
     record { role = λ r l. sum .role r l ∙ ap₂ (λ (x y : ℕ). x + y) (chosen .own-at .place r p l there) (shares r l) }
   where
     shares : (r : ℕ) → r < 8 →
-        sumBelow 8 (λ j. given (getD juniors r 0) j (getD inhs (8 * p + j) 0)) ≡ sumBelow (roleCount b) (share b at p r)
+        sumBelow 8 (λ j. given (getD juniors r 0) j (getD inhs (8 * p + j) 0))
+        ≡ sumBelow (roleCount b) (share rules b at p r)
     shares r l =
-        sum-same (λ j. given (getD juniors r 0) j (getD inhs (8 * p + j) 0)) (share b at p r) 8
+        sum-same (λ j. given (getD juniors r 0) j (getD inhs (8 * p + j) 0)) (share rules b at p r) 8
         (λ j m. rw (below .role r j l, chosen .inh-at .place j p m there))
-        ∙ sum-tail (share b at p r) (roleCount b) 8 (small b ok)
-        (λ j m n. share-none b ok at p r j (λ x y. omega arith))
+        ∙ sum-tail (share rules b at p r) (roleCount b) 8 (small b ok)
+        (λ j m n. share-none b ok rules at p r j (λ x y. omega arith))
 
 -- the law of seniority at the bytes: bit j of role r's byte exactly when a chain of H records leads from r to j
 pub junior-bit : (b : List ℕ) (ok : refusalOf b ≡ 0) (s : Fixed) → FixedBy b s → (r j : ℕ) → r < 8 →
@@ -214,6 +223,6 @@ junior-bit b ok s fixed r j l =
     (senior-chain (roleCount b) (tableOf b hierarchy) (small b ok) (accepted b ok .hierarchy) r j)
 
 -- the weights handed on are at most 40
-pub weights-le : (b : List ℕ) → refusalOf b ≡ 0 → (at : Context) (p : ℕ) (w : List ℕ) → AreWeights b at p w →
-    (r : ℕ) → r < 8 → getD w r 0 ≤ 40
-weights-le b ok at p w are r l = rw (are .role r l) (weight-le b ok at p r)
+pub weights-le : (b : List ℕ) → refusalOf b ≡ 0 → (rules : List ℕ) (at : Context) (p : ℕ) (w : List ℕ) →
+    AreWeights rules b at p w → (r : ℕ) → r < 8 → getD w r 0 ≤ 40
+weights-le b ok rules at p w are r l = rw (are .role r l) (weight-le b ok rules at p r)

@@ -1,6 +1,7 @@
 pub mod Operators
 pub mod Contexts
 pub mod Seniority
+pub mod Resolution
 pub mod Weights
 pub mod Acting
 pub mod Setting

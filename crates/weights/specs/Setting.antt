@@ -1,9 +1,10 @@
--- What the functions of this layer hand on: the setting of a base and a context, and the weights of all roles.
+-- What the functions of this layer hand on: the setting of a base, a context and a list of rules, and the weights of
+-- all roles.
 use Prim.Native.Nat.{ℕ, _+_, _*_, _≤_, _<_}
 use mathlib.Core.Bool.{Bool, true, cond, _&&_, _||_}
 use mathlib.Core.Path.{_≡_}
 use mathlib.Core.List.{List}
-use lib.ListN.{length, getD}
+use lib.ListN.{length, getD, take}
 use lib.Dec.{eqb}
 use Rattle.folds.specs.Below.{sumBelow}
 use Rattle.folds.specs.Sets.{inSet}
@@ -11,9 +12,9 @@ use Rattle.reader.specs.Tables.{hierarchy, contexts, tableOf}
 use Rattle.reader.specs.Fields.{senior, junior}
 use Rattle.weights.specs.declared.Context.{Context}
 use Rattle.weights.specs.declared.Fixed.{Fixed}
-use Rattle.weights.specs.declared.ChosenWeights.{ChosenWeights}
 use Rattle.weights.specs.Contexts.{contextHolds}
 use Rattle.weights.specs.Seniority.{seniorTo}
+use Rattle.weights.specs.Resolution.{goesBefore}
 use Rattle.weights.specs.Weights.{chosenWeight, anyType, typeOne, own, inh, weight}
 
 -- the set s has the context numbers 0 to 15 that hold by the table C
@@ -24,8 +25,13 @@ pub record Holding (at : Context) (c : List ℕ) (s : ℕ) : Type 0 where
 pub record Juniors (h bytes : List ℕ) : Type 0 where
   pub role : (s j : ℕ) → s < 8 → inSet (getD bytes s 0) j ≡ seniorTo h s j
 
--- s is what the base b fixes in the context that s carries
+-- the rules that a setting carries, in their order; none where no list was lent
+abbrev pub rulesOf : Fixed → List ℕ
+rulesOf s = take (s .listed) (s .rules)
+
+-- s is what the base b fixes in the context that s carries; it lists no more rules than it has room for
 pub record FixedBy (b : List ℕ) (s : Fixed) : Type 0 where
+  pub few : s .listed ≤ length (s .rules)
   pub holding : Holding (s .at) (tableOf b contexts) (s .contexts)
   pub juniors : Juniors (tableOf b hierarchy) (s .juniors)
 
@@ -33,33 +39,43 @@ pub record FixedBy (b : List ℕ) (s : Fixed) : Type 0 where
 abbrev pub inForceBy : ℕ → ℕ → Bool
 inForceBy s n = cond (eqb n 255) true (inSet s n)
 
+-- policy i is taken up at place k: none is kept there, or i goes before the one that is
+abbrev pub takenUp : List ℕ → List ℕ → ℕ → List ℕ → List ℕ → ℕ → Bool
+takenUp rules a i kept weights k = eqb (getD weights k 0) 0 || goesBefore rules a i (getD kept k 0)
+
 -- the weight kept, or the given one where none is
 abbrev pub firstOf : ℕ → ℕ → ℕ
 firstOf kept given = cond (eqb kept 0) given kept
+
+-- the 128 places of v hold 0
+pub record Vacant (v : List ℕ) : Type 0 where
+  pub size : length v ≡ 128
+  pub zero : (i : ℕ) → i < 128 → getD v i 0 ≡ 0
 
 -- v has f r p, of role r and permission p, at 8 times p and r, for 8 roles and 16 permissions
 pub record Placed (f : ℕ → ℕ → ℕ) (v : List ℕ) : Type 0 where
   pub place : (r p : ℕ) → r < 8 → p < 16 → getD v (8 * p + r) 0 ≡ f r p
 
--- the weights of the policies that count among the first n of the table A, by the set s of context numbers
-pub record AreChosen (s : ℕ) (a : List ℕ) (n : ℕ) (f : ChosenWeights) : Type 0 where
-  pub any : Placed (chosenWeight (inForceBy s) anyType a n) (f .own)
-  pub one : Placed (chosenWeight (inForceBy s) typeOne a n) (f .inh)
+-- the weights of the policies that count among the first n of the table A by the rules, where s is the set of the
+-- context numbers that hold
+pub record AreChosen (rules : List ℕ) (s : ℕ) (a : List ℕ) (n : ℕ) (owns inhs : List ℕ) : Type 0 where
+  pub any : Placed (chosenWeight rules (inForceBy s) anyType a n) owns
+  pub one : Placed (chosenWeight rules (inForceBy s) typeOne a n) inhs
 
 -- no weight is above 5
 abbrev pub Light : List ℕ → Type 0
 Light v = (i : ℕ) → i < 128 → getD v i 0 ≤ 5
 
--- the lists have own(r, p) and inh(r, p) of the base b in a context
-pub record ChosenBy (b : List ℕ) (at : Context) (owns inhs : List ℕ) : Type 0 where
-  pub own-at : Placed (own b at) owns
-  pub inh-at : Placed (inh b at) inhs
+-- the lists have own(r, p) and inh(r, p) of the base b by the rules in a context
+pub record ChosenBy (rules b : List ℕ) (at : Context) (owns inhs : List ℕ) : Type 0 where
+  pub own-at : Placed (own rules b at) owns
+  pub inh-at : Placed (inh rules b at) inhs
   pub own-light : Light owns
   pub inh-light : Light inhs
 
 -- w has the weight of each role for permission p
-pub record AreWeights (b : List ℕ) (at : Context) (p : ℕ) (w : List ℕ) : Type 0 where
-  pub role : (r : ℕ) → r < 8 → getD w r 0 ≡ weight b at r p
+pub record AreWeights (rules b : List ℕ) (at : Context) (p : ℕ) (w : List ℕ) : Type 0 where
+  pub role : (r : ℕ) → r < 8 → getD w r 0 ≡ weight rules b at r p
 
 -- what a junior j that hands on x gives to a role with the juniors s
 abbrev pub given : ℕ → ℕ → ℕ → ℕ

@@ -12,10 +12,10 @@ use Rattle.reader.specs.Rules.{refusalOf}
 use Rattle.reader.proofs.Frame.{roles-range, permissions-le}
 use Rattle.reader.proofs.Accepted.{accepted, clause-fine}
 use Rattle.weights.specs.declared.Context.{Context}
-use Rattle.weights.specs.declared.ChosenWeights.{ChosenWeights}
 use Rattle.weights.specs.Weights.{weight}
-use Rattle.weights.specs.Setting.{FixedBy, ChosenBy, AreWeights}
+use Rattle.weights.specs.Setting.{rulesOf, FixedBy, ChosenBy, AreWeights}
 use Rattle.weights.specs.Acting.{mayAct}
+use Rattle.weights.proofs.Choice.{vacant}
 use Rattle.weights.proofs.Weigh.{weights-le}
 use Rattle.decision.specs.Conditions.{permissionHolds}
 use Rattle.decision.specs.Groups.{entryCount, entryRole, sumOf, rolesOf, someWeightless, groupRefusal}
@@ -40,8 +40,11 @@ module _ (s : tie.Start) where
   abbrev group : List ℕ
   group = s .args .group .now
 
+  abbrev rules : List ℕ
+  rules = rulesOf (s .args .s)
+
   abbrev weigh : ℕ → ℕ
-  weigh r = weight base context r permission
+  weigh r = weight rules base context r permission
 
   ok : refusalOf base ≡ 0
   ok = s .pre .0
@@ -59,7 +62,7 @@ module _ (s : tie.Start) where
   members = membersOf base group
 
   abbrev decided : ℕ
-  decided = groupDecision base context permission group
+  decided = groupDecision rules base context permission group
 
   abbrev weightless : Bool
   weightless = someWeightless weigh group
@@ -92,13 +95,14 @@ module _ (s : tie.Start) where
 
   record Chosen : Type 0 where
     known : Known
-    f : ChosenWeights
-    by : ChosenBy base context (f .own) (f .inh)
+    owns : List ℕ
+    inhs : List ℕ
+    by : ChosenBy rules base context owns inhs
 
   record Weighed : Type 0 where
     known : Known
     w : List ℕ
-    are : AreWeights base context permission w
+    are : AreWeights rules base context permission w
 
   record Counted : Type 0 where
     weighed : Weighed
@@ -136,15 +140,16 @@ past15 c =
     record { start = s; facts = known s h; rest = rest15 s h }
 
 -- 16
-abbrev at-chosen : tie.After-chosen → Run Chosen left15
-at-chosen c =
-    let r = past15 (c .before) in
-    learn r (record { known = r .facts; f = c .chosen .result; by = c .chosen .ensures })
+abbrev at-choose : tie.After-inh → Run Known left15
+at-choose c = past15 (c .before .before)
 
-abbrev at-lent : tie.After-role-weights-arg2 → Run Chosen left15
-at-lent c =
-    let lent = c .before .before in
-    at-chosen (lent .before)
+abbrev at-chosen : tie.After-choose → Run Chosen left15
+at-chosen c =
+    let r = at-choose (c .before) in
+    learn r (record { known = r .facts; owns = _; inhs = _; by = c .choose .ensures })
+
+abbrev at-lent : tie.After-inh2 → Run Chosen left15
+at-lent c = at-chosen (c .before .before)
 
 abbrev at-weighed : tie.After-role-weights → Run Weighed left15
 at-weighed c =
@@ -153,7 +158,7 @@ at-weighed c =
     learn r (record {
       known = r .facts .known;
       w = c .role-weights .result;
-      are = c .role-weights .ensures (base s) (context s) (ok s) (r .facts .by) (fixed s .juniors);
+      are = c .role-weights .ensures (rules s) (base s) (context s) (ok s) (r .facts .by) (fixed s .juniors);
     })
 
 abbrev at16 : tie.After-some-weightless → Run Weighed left15
@@ -162,7 +167,7 @@ at16 c = at-weighed (c .before)
 test16 : (c : tie.After-some-weightless) → weightless (at16 c .start) ≡ c .some-weightless .result
 test16 c =
     let k = at16 c .facts in
-    sym (c .some-weightless .ensures ∙ weightless-same _ _ _ _ (group (at16 c .start)) (k .are) (k .known .low))
+    sym (c .some-weightless .ensures ∙ weightless-same _ _ _ _ _ (group (at16 c .start)) (k .are) (k .known .low))
 
 abbrev past16 : tie.Else2 → Run Weighed left16
 past16 c = pass (at16 (c .before)) (passed 16 (test16 (c .before) ∙ c .if2 .left))
@@ -195,9 +200,10 @@ test17 : (c : tie.After-permission-holds) → holds (at17 c .start) ≡ c .permi
 test17 c =
     let s = at17 c .start in
     let k = at17 c .facts in
-    let weighed = sum-weights _ _ _ _ (group s) (k .weighed .are) (k .weighed .known .low) in
+    let weighed = sum-weights _ _ _ _ _ (group s) (k .weighed .are) (k .weighed .known .low) in
     let sum = c .before .before .sum-of .ensures .0 ∙ weighed in
-    let same = condition-same (base s) (context s) (permission s) (group s) _ _ _ _ (k .table-is) (k .n-is) sum in
+    let same =
+    condition-same (rules s) (base s) (context s) (permission s) (group s) _ _ _ _ (k .table-is) (k .n-is) sum in
     sym (c .permission-holds .ensures ∙ same (c .before .roles-of .ensures))
 
 members-refusal-requires : tie.Need-members-refusal-requires
@@ -209,8 +215,8 @@ returns c =
     let e = test15 (c .before) in
     e ∙ refused _ (λ h. c .if1 .taken (e ∙ h))
 
-chosen-requires : tie.Need-chosen-requires
-chosen-requires c κs = (ok (past15 c .start), fixed (past15 c .start))
+choose-requires : tie.Need-choose-requires
+choose-requires c κs = let s = at-choose c .start in (ok s, fixed s, vacant, vacant)
 
 role-weights-requires : tie.Need-role-weights-requires
 role-weights-requires c κs =
@@ -232,7 +238,7 @@ entry-count-requires c κs = at-clauses c .facts .known .few
 sum-of-requires : tie.Need-sum-of-requires
 sum-of-requires c κs =
     let k = at-count c .facts .weighed in
-    (k .known .few, k .known .low, weights-le _ (ok (at-count c .start)) _ _ _ (k .are))
+    (k .known .few, k .known .low, weights-le _ (ok (at-count c .start)) _ _ _ _ (k .are))
 
 roles-of-requires : tie.Need-roles-of-requires
 roles-of-requires c κs = at-sum c .facts .weighed .known .low
@@ -254,7 +260,7 @@ decide-checked-spec =
     (tie.spec
     members-refusal-requires
     returns
-    chosen-requires
+    choose-requires
     role-weights-requires
     some-weightless-requires
     returns-2

@@ -147,10 +147,11 @@ loop-again c =
     again (h .turn) (h .more) (small (h .start)) (f .is) (c .hand-on .ensures)
 
 returns : tie.Need-returns Inv-loop μ-loop
-returns c b at ok chosen below =
+returns c rules b at ok chosen below =
     let loop = c .before .loop in
     let end : loop .j ≡ 8 = omega (arith, loop .inv .within) in
-    weigh b at ok (p (at-loop (c .before))) (small (at-loop (c .before))) chosen below (rw end at (loop .inv .sum))
+    let s = at-loop (c .before) in
+    weigh rules b at ok (p s) (small s) chosen below (rw end at (loop .inv .sum))
 
 pub role-weights-spec : {M : Type 1} → statement M
 role-weights-spec =

@@ -3,6 +3,7 @@ use mathlib.Core.Bool.{false}
 use mathlib.Core.List.{List}
 use mathlib.Core.Path.{_≡_, refl}
 use Prim.Native.Nat.{ℕ}
+use native.Mathlib.Omega.{arith}
 use Rattle.reader.specs.Tables.{contexts, tableOf, frameRefusal}
 use Rattle.reader.specs.Rules.{contextsBad, refusalOf}
 use Rattle.reader.proofs.Accepted.{accepted}
@@ -43,7 +44,9 @@ returns : tie.Need-returns
 returns c =
     let held = c .before in (
       refl,
+      refl,
       record {
+        few = omega arith;
         holding = rw (← held .before .part .ensures) (held .holding .ensures);
         juniors = c .juniors-of-base .ensures;
       },

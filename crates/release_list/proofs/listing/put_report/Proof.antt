@@ -9,7 +9,7 @@ use lib.ListN.{length, replicate}
 use Rattle.reader.specs.declared.Answer.{Answer}
 use Rattle.reader.specs.Tables.{permissionCount}
 use Rattle.weights.specs.declared.Context.{Context}
-use Rattle.report.specs.Report.{Reported}
+use Rattle.report.specs.Report.{ReportedOf}
 use Rattle.release_list.specs.Text.{ascii}
 use Rattle.release_list.specs.Writing.{Written, Parts, linesText}
 use Rattle.release_list.proofs.Answered.{count-short, Ready, report-ready, refused-listed, done-listed}
@@ -46,7 +46,7 @@ record Run : Type 0 where
   parts : List ℕ
   answer : Answer
   size : length parts ≡ 208
-  reported : Reported (base start) (at start) (replicate 208 0) parts answer
+  reported : ReportedOf (base start) (at start) (replicate 208 0) parts answer
 
 record Done : Type 0 where
   run : Run

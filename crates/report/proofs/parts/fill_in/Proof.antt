@@ -17,6 +17,7 @@ use Rattle.reader.specs.Rules.{refusalOf}
 use Rattle.reader.proofs.Frame.{framed, roles-range, users-le}
 use Rattle.reader.proofs.Accepted.{accepted-frame}
 use Rattle.weights.specs.Acting.{mayAct}
+use Rattle.weights.proofs.Choice.{vacant}
 use Rattle.weights.proofs.MayAct.{acting-known}
 use Rattle.masks.specs.Sets.{RoleCounts}
 use Rattle.multisets.specs.Levels.{Levels, Blank}
@@ -66,8 +67,12 @@ at-roles c = entered (c .before)
 abbrev at-users : tie.After-user-count → tie.Start
 at-users c = at-roles (c .before)
 
-abbrev at-chosen : tie.After-table → tie.After-chosen
-at-chosen c = c .before .before .before
+-- where the users' next ends are known
+abbrev at-choose : tie.After-inh → tie.After-next-ends
+at-choose c = c .before .before
+
+abbrev at-chosen : tie.After-table → tie.After-next-ends
+at-chosen c = at-choose (c .before .before)
 
 abbrev at-counts : tie.After-counts → tie.After-table
 at-counts c = c .before
@@ -76,7 +81,7 @@ abbrev at-role-counts : tie.After-wide → tie.After-role-counts
 at-role-counts c = c .before .before
 
 abbrev at-wide : tie.After-wide → tie.Start
-at-wide c = at-users (at-chosen (at-counts (at-role-counts c .before .before)) .before .before)
+at-wide c = at-users (at-chosen (at-counts (at-role-counts c .before .before)) .before)
 
 abbrev at-begin : tie.After-begin-arg4 → tie.After-wide
 at-begin c = c .before .before .before .before
@@ -96,9 +101,9 @@ at-fill c = at-fill4 (c .before .before)
 few-roles : (c : tie.After-user-count) → c .before .role-count .result ≤ 8
 few-roles c = rw (c .before .role-count .ensures) (roles-range _ (accepted-frame _ (at-users c .pre .0)) .1)
 
-roles-are : (c : tie.After-chosen) →
-    c .before .before .before .role-count .result ≡ roleCount (at-users (c .before .before) .args .base .now)
-roles-are c = c .before .before .before .role-count .ensures
+roles-are : (c : tie.After-next-ends) →
+    c .before .before .role-count .result ≡ roleCount (at-users (c .before) .args .base .now)
+roles-are c = c .before .before .role-count .ensures
 
 d-is : (c : tie.After-wide) → c .wide .result ≡ roleCount (at-wide c .args .base .now)
 d-is c = c .wide .ensures .0 ∙ roles-are (at-chosen (at-counts (at-role-counts c .before .before)))
@@ -115,8 +120,8 @@ next-ends-requires c κs =
     let n = c .user-count .ensures in
     (p .3 .size, few-users (p .3) (p .0) n, idle-past (p .3) (p .0) n)
 
-chosen-requires : tie.Need-chosen-requires
-chosen-requires c κs = let p = at-users (c .before) .pre in (p .0, p .2)
+choose-requires : tie.Need-choose-requires
+choose-requires c κs = let p = at-users (at-choose c .before) .pre in (p .0, p .2, vacant, vacant)
 
 table-requires : tie.Need-table-requires
 table-requires c κs = search needs
@@ -125,7 +130,7 @@ slice-aggregate-role-counts : tie.Need-slice-aggregate-role-counts
 slice-aggregate-role-counts c = search needs
 
 sets-below-requires : tie.Need-sets-below-requires
-sets-below-requires c κs = let r = at-chosen (at-counts c) in few-roles (r .before .before)
+sets-below-requires c κs = few-roles (at-chosen (at-counts c) .before)
 
 role-counts-requires : tie.Need-role-counts-requires
 role-counts-requires c κs = (refl, c .sets-below .ensures .1)
@@ -151,15 +156,15 @@ fill-parts-requires c κs =
     let begun = at-own nexts in
     let wide = at-begin (begun .before) in
     let made = at-role-counts wide in
-    let chosen = at-chosen (at-counts (made .before .before)) in
-    let ends = chosen .before in
+    let table = at-counts (made .before .before) in
+    let ends = at-chosen table in
     let p = at-wide wide .pre in (
       p .0,
       p .1,
       p .2,
-      chosen .chosen .ensures,
-      at-counts (made .before .before) .table .ensures,
-      same-counts (roles-are chosen) (made .before .sets-below .ensures .0) (made .role-counts .ensures),
+      table .before .choose .ensures,
+      table .table .ensures,
+      same-counts (roles-are ends) (made .before .sets-below .ensures .0) (made .role-counts .ensures),
       (_, p .3, ends .next-ends .ensures .0),
       p .5,
       same-levels (d-is wide) (begun .begin .ensures _),
@@ -194,7 +199,7 @@ fill-in-spec =
     role-count-requires
     user-count-requires
     next-ends-requires
-    chosen-requires
+    choose-requires
     table-requires
     slice-aggregate-role-counts
     sets-below-requires

@@ -15,9 +15,10 @@ use Rattle.folds.specs.Below.{countBelow}
 use Rattle.folds.proofs.Numbers.{count-none, count-le}
 use Rattle.reader.specs.Tables.{permissionCount, roleCount}
 use Rattle.reader.proofs.Accepted.{accepted-frame}
-use Rattle.weights.specs.declared.Context.{Context}
+use Rattle.weights.specs.Setting.{rulesOf}
+use Rattle.decision.specs.Decision.{decisionBy}
 use Rattle.multisets.specs.Levels.{Levels}
-use Rattle.report.specs.Smallest.{smallestOf}
+use Rattle.report.specs.Smallest.{Deciding, smallestBy}
 use Rattle.report.specs.Report.{releasable}
 use Rattle.report.specs.Parts.{PartFor, Filled}
 use Rattle.report.proofs.Filling.{part-13, filled-none, filled-more, count-part}
@@ -33,47 +34,45 @@ record Same (t₀ ends₀ from₀ roles₀ sums₀ t ends from roles sums : List
   sums-size : length sums ≡ length sums₀
 
 -- the loop's invariant: the parts of the permissions below p stand in the buffer
-record Turn (b : List ℕ) (at : Context) (nexts : List ℕ) (n : ℕ) (out₀ : List ℕ) (p count : ℕ)
-    (out : List ℕ) : Type 0 where
+record Turn (decision : Deciding) (n : ℕ) (out₀ : List ℕ) (p count : ℕ) (out : List ℕ) : Type 0 where
   within : p ≤ n
   size : length out ≡ length out₀
-  counted : count ≡ countBelow p (λ q. ltb 0 (smallestOf b at q))
-  filled : Filled b at p out₀ out
+  counted : count ≡ countBelow p (λ q. ltb 0 (smallestBy decision q))
+  filled : Filled decision p out₀ out
 
 -- one part more, of plain values
-module _ {b : List ℕ} {at : Context} {nexts : List ℕ} {n : ℕ} {out₀ : List ℕ} {p count : ℕ} {out : List ℕ}
-    (turn : Turn b at nexts n out₀ p count out) (low : p < n) (is : n ≡ permissionCount b)
-    (room : 13 * permissionCount b ≤ length out₀) where
+module _ {decision : Deciding} {n P : ℕ} {out₀ : List ℕ} {p count : ℕ} {out : List ℕ}
+    (turn : Turn decision n out₀ p count out) (low : p < n) (is : n ≡ P) (room : 13 * P ≤ length out₀) where
   fits : 13 * p + 13 ≤ length out
   fits = let a = turn .size in omega arith
 
-  turn-more : {part written : List ℕ} {more from : ℕ} → PartFor b at p part → from ≡ 13 * p → written ≡ part →
+  turn-more : {part written : List ℕ} {more from : ℕ} → PartFor decision p part → from ≡ 13 * p → written ≡ part →
       length (putMid from (from + 13 - from) out written) ≡ length out → more ≡ cond (ltb 0 (getD part 0 0)) 1 0 →
-      Turn b at nexts n out₀ (p + 1) (count + more) (putMid from (from + 13 - from) out written)
+      Turn decision n out₀ (p + 1) (count + more) (putMid from (from + 13 - from) out written)
   turn-more {part} this e same size above = record {
     within = omega arith;
     size = size ∙ turn .size;
-    counted = count-part b at p part count _ this (turn .counted) above;
-    filled = rw (e, same) (filled-more b at p out₀ out part (turn .filled) this fits);
+    counted = count-part decision p part count _ this (turn .counted) above;
+    filled = rw (e, same) (filled-more decision p out₀ out part (turn .filled) this fits);
   }
 
   counted-few : count ≤ p
-  counted-few = rw (turn .counted) (count-le (λ q. ltb 0 (smallestOf b at q)) p)
+  counted-few = rw (turn .counted) (count-le (λ q. ltb 0 (smallestBy decision q)) p)
 
-done : {b : List ℕ} {at : Context} {nexts : List ℕ} {n : ℕ} {out₀ : List ℕ} {p count : ℕ} {out : List ℕ} →
-    p ≡ permissionCount b →
-    Turn b at nexts n out₀ p count out → (count ≡ releasable b at) × Filled b at (permissionCount b) out₀ out
+done : {decision : Deciding} {n P : ℕ} {out₀ : List ℕ} {p count : ℕ} {out : List ℕ} → p ≡ P →
+    Turn decision n out₀ p count out → (count ≡ releasable decision P) × Filled decision P out₀ out
 unfolding releasable
 done e v = (v .counted ∙ rw e, rw e at (v .filled))
 
-thirteen : {b : List ℕ} {at : Context} {p : ℕ} {part : List ℕ} → PartFor b at p part → length part ≡ 13
-thirteen {b} {at} {p} f = ap length (f .bytes) ∙ part-13 b at p (f .group) (f .shown)
+thirteen : {decision : Deciding} {p : ℕ} {part : List ℕ} → PartFor decision p part → length part ≡ 13
+thirteen {decision} {p} f = ap length (f .bytes) ∙ part-13 decision p (f .group) (f .shown)
 
 abbrev Inv-loop : tie.InvT-loop
 Inv-loop base s own inh starts counts nexts t₀ ends₀ from₀ roles₀ sums₀ out₀ n known₀ count₀ p₀
     t ends from roles sums out known count p =
     Same t₀ ends₀ from₀ roles₀ sums₀ t ends from roles sums
-    × Turn base (s .at) nexts n out₀ p count out × Levels (roleCount base) known nexts t ends from roles
+    × Turn (decisionBy (rulesOf s) base (s .at)) n out₀ p count out
+    × Levels (roleCount base) known nexts t ends from roles
 
 abbrev μ-loop : tie.MeasureT-loop
 μ-loop base s own inh starts counts nexts t₀ ends₀ from₀ roles₀ sums₀ out₀ n known₀ count₀ p₀
@@ -126,7 +125,7 @@ loop-holds : tie.Need-loop-holds Inv-loop μ-loop
 loop-holds c =
     let s = entered (c .before) in (
       record { t-size = refl; ends-size = refl; from-size = refl; roles-size = refl; sums-size = refl },
-      record { within = omega arith; size = refl; counted = sym (count-none _); filled = filled-none _ _ _ },
+      record { within = omega arith; size = refl; counted = sym (count-none _); filled = filled-none _ _ },
       s .pre .8,
     )
 

@@ -10,7 +10,7 @@ use native.Mathlib.Nat.{lt-of-lt-of-le}
 use Rattle.reader.specs.Tables.{clauses, roleCount, tableOf}
 use Rattle.reader.proofs.Frame.{framed, permissions-le}
 use Rattle.reader.proofs.Accepted.{accepted-frame}
-use Rattle.weights.specs.Setting.{AreWeights}
+use Rattle.weights.specs.Setting.{rulesOf, AreWeights}
 use Rattle.seek.specs.Search.{Answered}
 use Rattle.multisets.specs.Rising.{bytesOf}
 use Rattle.multisets.specs.Ranks.{first}
@@ -77,12 +77,12 @@ at-known c = at-known7 (at-known9 (c .before .before))
 
 -- what the calls told: the weights, the number of roles, the table K
 weighs : (c : tie.After-wide) →
-    AreWeights (at-wide c .args .base .now) (at-wide c .args .s .at) (at-wide c .args .permission)
-    (c .before .before .before .role-weights .result)
+    AreWeights (rulesOf (at-wide c .args .s)) (at-wide c .args .base .now) (at-wide c .args .s .at)
+    (at-wide c .args .permission) (c .before .before .before .role-weights .result)
 weighs c =
     let s = at-wide c in
-    c .before .before .before .role-weights .ensures (s .args .base .now) (s .args .s .at) (s .pre .0) (s .pre .4)
-    (s .pre .3 .juniors)
+    c .before .before .before .role-weights .ensures (rulesOf (s .args .s)) (s .args .base .now) (s .args .s .at)
+    (s .pre .0) (s .pre .4) (s .pre .3 .juniors)
 
 d-is : (c : tie.After-wide) → c .wide .result ≡ roleCount (at-wide c .args .base .now)
 d-is c = c .wide .ensures .0 ∙ c .before .role-count .ensures
@@ -125,7 +125,8 @@ fewest-requires c κs =
     let s = at-wide wide in
     let counts = s .args .counts .now in
     let asked =
-    seeking (s .args .base .now) (s .args .s .at) (s .args .permission) (p .0) _ counts (weighs wide) (p .6) in
+    seeking (rulesOf (s .args .s)) (s .args .base .now) (s .args .s .at) (s .args .permission) (p .0) _ counts
+    (weighs wide) (p .6) in
     let table = table-is wide in
     let roles = d-is wide in (
       same-seeking table roles asked,
@@ -159,7 +160,7 @@ returns c =
     let wide = at-fewest (found .before) in
     let p = at-wide wide .pre in
     let seven : found .fewest .result .n ≡ 7 = (let t = c .before .if1 .taken in omega arith) in
-    let none = part-none _ _ _ (p .0) (p .1) (p .2) _ _ (p .7 .1) (weighs wide) (answered found) seven in (
+    let none = part-none _ _ _ _ (p .0) (p .1) (p .2) _ _ (p .7 .1) (weighs wide) (answered found) seven in (
       rw (c .part-of .ensures) none,
       same-levels (d-is wide) (found .fewest .ensures .0),
     )
@@ -192,7 +193,7 @@ returns-2 c =
     let wide = at-fewest (found .before) in
     let p = at-wide wide .pre in
     let few = six found (left .if1 .left) in
-    let some = part-found _ _ _ (p .0) (p .1) (p .2) _ _ (p .7 .1) (weighs wide) (answered found) few in (
+    let some = part-found _ _ _ _ (p .0) (p .1) (p .2) _ _ (p .7 .1) (weighs wide) (answered found) few in (
       rw (c .part-of2 .ensures) some,
       same-levels (d-is wide) (found .fewest .ensures .0),
     )

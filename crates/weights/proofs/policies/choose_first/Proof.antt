@@ -1,4 +1,4 @@
--- `chosen_weights` meets its contract. A turn is argued of plain values; `Here` is what a run knows at a place of the
+-- `choose_first` meets its contract. A turn is argued of plain values; `Here` is what a run knows at a place of the
 -- loop's body.
 use native.Mathlib.Omega.{arith}
 use borrow.Author.Needs.{needs}
@@ -6,9 +6,9 @@ use Prim.Native.Nat.{ℕ, _+_, _-_, _*_, _/_, _^_, _≤_, _<_}
 use mathlib.Core.Bool.{true, false, cond}
 use mathlib.Core.Path.{_≡_, refl, sym, _∙_}
 use mathlib.Core.Logic.{inl, inr}
-use mathlib.Core.List.{List}
+use mathlib.Core.List.{List, []}
 use lib.Dec.{eqb, lit<}
-use lib.ListN.{length, getD, set, length-set, getD-replicate}
+use lib.ListN.{length, getD, set, length-set}
 use mir.Val.{Fits}
 use mir.Syntax.{w64}
 use Rattle.reader.specs.Fields.{policyRole, policyPermission, policyWeight, policyType, policyContext}
@@ -17,15 +17,15 @@ use Rattle.reader.proofs.Accepted.{PolicyFine, policy-fine}
 use Rattle.weights.specs.Weights.{anyType, typeOne}
 use Rattle.weights.specs.Setting.{inForceBy, firstOf, AreChosen}
 use Rattle.weights.proofs.Choice.{placed-none, placed-same, placed-more}
-use Rattle.weights.proofs.policies.chosen_weights.Statement.{statement}
-use Rattle.weights.proofs.policies.chosen_weights.Tie as tie
+use Rattle.weights.proofs.policies.choose_first.Statement.{statement}
+use Rattle.weights.proofs.policies.choose_first.Tie as tie
 
 -- the loop's invariant: the weights of the policies that count among the first i
 record Turn (s : ℕ) (a own inh : List ℕ) (i : ℕ) : Type 0 where
   within : i ≤ length a / 8
   own-size : length own ≡ 128
   inh-size : length inh ≡ 128
-  chosen : AreChosen s a i (record { own = own; inh = inh })
+  chosen : AreChosen [] s a i own inh
 
 abbrev Inv-loop : tie.InvT-loop
 Inv-loop a contexts own₀ inh₀ i₀ i-end own inh i = Turn contexts a own inh i
@@ -95,7 +95,7 @@ module _ (s : Start) where
   contexts = s .args .contexts
 
   ok : policiesBad 8 16 a ≡ false
-  ok = s .pre
+  ok = s .pre .0
 
   size : length a < 2 ^ 64
   size = s .good .0 .0
@@ -159,10 +159,10 @@ at-place c =
 abbrev at-weight : tie.After-shared-slice-known5 Inv-loop μ-loop → Placing
 at-weight c = at-place (c .before)
 
-abbrev at-own : tie.After-own Inv-loop μ-loop → Placing
+abbrev at-own : tie.After-keep-first-arg Inv-loop μ-loop → Placing
 at-own c = at-weight (c .before)
 
-abbrev at-inh : tie.After-inh Inv-loop μ-loop → Placing
+abbrev at-inh : tie.After-keep-first-arg2 Inv-loop μ-loop → Placing
 at-inh c = at-own (c .before .before)
 
 abbrev at-policy-type : tie.After-shared-slice-known6 Inv-loop μ-loop → Placing
@@ -172,15 +172,14 @@ abbrev at-given : tie.After-type-one-weight Inv-loop μ-loop → Placing
 at-given c = at-policy-type (c .before)
 
 loop-holds : tie.Need-loop-holds Inv-loop μ-loop
-loop-holds c = record {
-  within = omega arith;
-  own-size = refl;
-  inh-size = refl;
-  chosen = record {
-    any = placed-none _ _ _ _ (λ i l. getD-replicate 128 i 0 0 l);
-    one = placed-none _ _ _ _ (λ i l. getD-replicate 128 i 0 0 l);
-  };
-}
+loop-holds c =
+    let (_, own, inh) = c .before .pre in
+    record {
+      within = omega arith;
+      own-size = own .size;
+      inh-size = inh .size;
+      chosen = record { any = placed-none _ _ _ _ (own .zero); one = placed-none _ _ _ _ (inh .zero) };
+    }
 
 mul-at : tie.Need-mul-at Inv-loop μ-loop
 mul-at c = search needs
@@ -252,8 +251,8 @@ returns c =
     let end : loop .i ≡ length (a (at-loop (c .before))) / 8 = omega (arith, loop .inv .within) in
     rw end at (loop .inv .chosen)
 
-pub chosen-weights-spec : {M : Type 1} → statement M
-chosen-weights-spec =
+pub choose-first-spec : {M : Type 1} → statement M
+choose-first-spec =
     tie.close
     (tie.spec
     Inv-loop
