@@ -8,17 +8,17 @@
  *
  * Answers. Each call takes any bytes whatever and gives one answer: 0 (granted
  * or done), or the number of the first refusal that applies, in the order of
- * enum release_refusal. A refused call writes nothing, with one exception: a
- * refused opening gives the unsigned sheet for permission 255 in its 14 bytes.
- * An answer depends on the arguments alone.
+ * enum release_refusal but for 22, which comes after 9. A refused call writes
+ * nothing, with one exception: a refused opening gives the unsigned sheet for
+ * permission 255 in its 14 bytes. An answer depends on the arguments alone.
  *
  * Pointers. A slice passes as a pointer and its length in bytes.
- * - The pointer is valid for that length: base and group to read, out to read
- *   and write. It needs no alignment. Nothing beyond the length is read or
+ * - The pointer is valid for that length: base, list and group to read, out to
+ *   read and write. It needs no alignment. Nothing beyond the length is read or
  *   written.
  * - With length 0 the pointer may be anything, NULL too: it isn't followed.
  *   With a length above 0 it isn't NULL; nothing checks that.
- * - base and out don't overlap. base and group may.
+ * - out overlaps neither base nor list. base, list and group may overlap.
  * A sheet passes as a pointer alone.
  * - The pointer is valid for 14 bytes: to read and write for opening and
  *   signing, to read for asking. It needs no alignment, and nothing beyond is
@@ -34,8 +34,8 @@
  * same sheet, each with a buffer of its own, or a sheet of its own to open or
  * sign.
  *
- * Stack. release_report takes about 30,000 bytes, every other call less than
- * 4,096. A thread with 64 KiB of stack suffices for each.
+ * Stack. release_report and release_report_by take about 30,000 bytes, every
+ * other call less than 4,096. A thread with 64 KiB of stack suffices for each.
  */
 #ifndef RELEASE_H
 #define RELEASE_H
@@ -68,11 +68,27 @@
 #define RELEASE_SHEET_COUNT 1
 #define RELEASE_SHEET_ENTRIES 2
 
-/* The refusals, in checking order; each call's comment says which it can give.
-   For signing the order is 1 to 9, 13, 14, 15, 20, for a bound 1 to 9, 12 to
-   15, 21. The tables of a base are H (hierarchy), U (users), P (permissions),
-   K (group clauses), C (context clauses), A (policies) and X (exclusions); R
-   is the number of roles. */
+/* A resolution list has 1 to 3 bytes, each a different rule. Of two policies with
+   the same role and permission the first rule that tells them apart decides which
+   goes before, or else their order in A. */
+#define RELEASE_LONGEST_RESOLUTION 3
+
+/* The rules of a resolution list. */
+enum release_rule {
+    /* The later issue day goes first. */
+    RELEASE_RULE_LATER_DAY = 0,
+    /* The larger rank number goes first. */
+    RELEASE_RULE_LARGER_RANK = 1,
+    /* The smaller weight goes first. */
+    RELEASE_RULE_SMALLER_WEIGHT = 2
+};
+
+/* The refusals; each call's comment says which it can give. They are checked in
+   rising order, but for 22, which comes after 9: for signing the order is 1 to 9,
+   13, 14, 15, 20, for a bound 1 to 9, 12 to 15, 21, for a decision by a list 1 to
+   9, 22, 10, 11, 12 to 17, for a report by a list 1 to 9, 22, 11, 19. The tables
+   of a base are H (hierarchy), U (users), P (permissions), K (group clauses), C
+   (context clauses), A (policies) and X (exclusions); R is the number of roles. */
 enum release_refusal {
     /* No refusal: granted or done. */
     RELEASE_DONE = 0,
@@ -120,7 +136,10 @@ enum release_refusal {
     /* The sheet already holds six entries. */
     RELEASE_REFUSAL_SHEET_FULL = 20,
     /* The policy isn't in A, or its new weight isn't 1 to 5. */
-    RELEASE_REFUSAL_NO_POLICY_OR_WEIGHT = 21
+    RELEASE_REFUSAL_NO_POLICY_OR_WEIGHT = 21,
+    /* The resolution list is empty, longer than 3 bytes, repeats a rule or holds
+       another byte. */
+    RELEASE_REFUSAL_RESOLUTION = 22
 };
 
 #ifdef __cplusplus
@@ -145,6 +164,22 @@ uint32_t release_decide(const uint8_t *base, size_t base_len,
                         const uint8_t *group, size_t group_len);
 
 /*
+ * The decision by a resolution list: 0 if the group is granted the permission,
+ * or the first of refusals 1 to 9, 22, 10, 11 and 12 to 17 that applies. An empty
+ * list is refused by 22; without a list it is release_decide.
+ *
+ * Where several policies of one role for the permission are active, the one that
+ * no other of them goes before counts for the role, in place of the first in A;
+ * and among those of type 1 the one that no other of these goes before is what
+ * its seniors inherit. All else is as in release_decide.
+ */
+uint32_t release_decide_by(const uint8_t *base, size_t base_len,
+                           uint32_t permission,
+                           uint32_t minute, uint32_t day, uint32_t zone,
+                           const uint8_t *list, size_t list_len,
+                           const uint8_t *group, size_t group_len);
+
+/*
  * The release report: refusal + 256 * count. The refusal is 0, or the first of
  * 1 to 9, 11 and 19 that applies; the count is the number of permissions that
  * some group is granted, and 0 if refused.
@@ -162,6 +197,20 @@ uint32_t release_decide(const uint8_t *base, size_t base_len,
 uint64_t release_report(const uint8_t *base, size_t base_len,
                         uint32_t minute, uint32_t day, uint32_t zone,
                         uint8_t *out, size_t out_len);
+
+/*
+ * The release report by a resolution list: refusal + 256 * count. The refusal is
+ * 0, or the first of 1 to 9, 22, 11 and 19 that applies; the count is the number
+ * of permissions that some group is granted, and 0 if refused. An empty list is
+ * refused by 22; without a list it is release_report.
+ *
+ * The bytes of out are written as by release_report, for the groups that
+ * release_decide_by grants with the same list.
+ */
+uint64_t release_report_by(const uint8_t *base, size_t base_len,
+                           uint32_t minute, uint32_t day, uint32_t zone,
+                           const uint8_t *list, size_t list_len,
+                           uint8_t *out, size_t out_len);
 
 /*
  * The conflict list: refusal + 256 * count. The refusal is 0, or the first of
@@ -193,10 +242,11 @@ uint64_t release_conflicts(const uint8_t *base, size_t base_len,
  * its entries' bytes, in any order; 12 to 15 are those of release_decide.
  *
  * Of 0, the base with that weight in place of the old one passes the check, and
- * for every permission and context the sum of weights of this group by it
- * differs from the sum by this base by at most the bound: the difference of the
- * two weights times the number of entries whose role is the policy's or senior
- * to it, whatever the policy's type, permission and context. It is at most 24.
+ * for every permission and context, by every resolution list and without one,
+ * the sum of weights of this group by it differs from the sum by this base by at
+ * most the bound: the difference of the two weights times the number of entries
+ * whose role is the policy's or senior to it, whatever the policy's type,
+ * permission and context. It is at most 24.
  */
 uint64_t release_bound(const uint8_t *base, size_t base_len,
                        uint32_t policy, uint32_t weight,
@@ -239,14 +289,14 @@ uint32_t release_sheet_ask(const uint8_t *base, size_t base_len,
                            uint32_t minute, uint32_t day, uint32_t zone,
                            const uint8_t *sheet);
 
-/* The refusal in an answer of release_report, release_conflicts or
-   release_bound. */
+/* The refusal in an answer of release_report, release_report_by,
+   release_conflicts or release_bound. */
 static inline uint32_t release_answer_refusal(uint64_t answer) {
     return (uint32_t)(answer % 256);
 }
 
-/* The count in an answer of release_report or release_conflicts, or the bound
-   in one of release_bound. */
+/* The count in an answer of release_report, release_report_by or
+   release_conflicts, or the bound in one of release_bound. */
 static inline uint32_t release_answer_count(uint64_t answer) {
     return (uint32_t)(answer / 256);
 }

@@ -109,6 +109,30 @@ pub fn from_above() -> BaseBuilder {
     }
 }
 
+/// All policies are of one role and permission and equal by every rule, so that
+/// each is compared with the first by all rules.
+pub fn rivals() -> BaseBuilder {
+    BaseBuilder {
+        policies: (0..64)
+            .map(|i| Policy {
+                rank: 9,
+                issue_day: 900,
+                ..Policy::new(7, 0, 5, 1, i % 16)
+            })
+            .collect(),
+        ..full_base()
+    }
+}
+
+/// The same where each goes before all in front of it, by rank.
+pub fn overrides() -> BaseBuilder {
+    let mut base = rivals();
+    for (rank, policy) in (9..).zip(&mut base.policies) {
+        policy.rank = rank;
+    }
+    base
+}
+
 /// As many conflicts as a base can have, 2,688. Half the policies are for each
 /// of two permissions that exclude each other, all for one role and with as
 /// different weights and types as there are; the other exclusions are ones of
@@ -163,10 +187,19 @@ mod tests {
     use super::*;
     use compare::questions::at_minute;
     use compare::{agreed_check, expect_report};
+    use model::{Base, Reading, Resolution, Situation};
 
     #[test]
     fn all_pass_the_check() {
-        for base in [full_base(), from_above(), most_conflicts(), many_contexts()] {
+        let bases = [
+            full_base(),
+            from_above(),
+            rivals(),
+            overrides(),
+            most_conflicts(),
+            many_contexts(),
+        ];
+        for base in bases {
             assert_eq!(base.bytes().len(), 2_364);
             assert_eq!(agreed_check(&base.bytes()), 0);
         }
@@ -177,6 +210,23 @@ mod tests {
     fn a_typical_shop_has_groups_of_many_sizes() {
         let base = typical_shop().bytes();
         expect_report(&base, at_minute(600), 104, &[1, 2, 2, 3, 1, 4, 4, 0]);
+    }
+
+    /// Without a list the first policy is chosen, of rank 9. With another weight
+    /// for it, or for the last, which is of rank 72, the weights tell.
+    #[test]
+    fn by_rank_the_last_of_them_overrides_all_others() {
+        for (place, by_rank, without) in [(0, 5, 1), (63, 1, 5)] {
+            let mut base = overrides();
+            base.policies[place].weight = 1;
+            let bytes = base.bytes();
+            let base = Base::read(&bytes).expect("the base passes");
+            let resolution = Resolution::read(&[0, 1, 2]).expect("the list is legal");
+            let by_list = Situation::by(resolution, &base, at_minute(600), Reading::Paper);
+            assert_eq!(by_list.own(7, 0), by_rank);
+            let no_list = Situation::new(&base, at_minute(600), Reading::Paper);
+            assert_eq!(no_list.own(7, 0), without);
+        }
     }
 
     #[test]

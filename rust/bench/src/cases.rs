@@ -4,7 +4,7 @@ use compare::questions::at_minute;
 use compare::shop::small_shop;
 use model::{Context, Sheet};
 
-use crate::bases::{from_above, full_base, many_contexts, most_conflicts, typical_shop};
+use crate::bases::*;
 use crate::worst;
 
 #[derive(Clone, Copy, PartialEq, Eq)]
@@ -19,7 +19,13 @@ pub enum Call {
     Ask,
     /// For a policy and its new weight.
     Bound(u32, u32),
+    /// By [`LIST`].
+    DecideBy,
+    ReportBy,
 }
+
+/// The resolution list of decisions and reports by one: all rules.
+const LIST: [u8; 3] = [0, 1, 2];
 
 /// Who answers.
 #[derive(Clone, Copy, Debug, PartialEq, Eq)]
@@ -98,6 +104,10 @@ impl Case {
                 let group = &self.group;
                 number(release::answers::bound(&self.base, policy, weight, group))
             }
+            Call::DecideBy => {
+                release::answers::decide_by(&self.base, 0, at, &LIST, &self.group).into()
+            }
+            Call::ReportBy => number(release::answers::report_by(&self.base, at, &LIST, out)),
         }
     }
 
@@ -115,6 +125,8 @@ impl Case {
             Call::Bound(policy, weight) => {
                 number(twin::bound(&self.base, policy, weight, &self.group))
             }
+            Call::DecideBy => twin::decide_by(&self.base, 0, self.at, &LIST, &self.group).into(),
+            Call::ReportBy => number(twin::report_by(&self.base, self.at, &LIST, out)),
         }
     }
 
@@ -132,6 +144,8 @@ impl Case {
             Call::Bound(policy, weight) => {
                 number(model::bound(&self.base, policy, weight, &self.group))
             }
+            Call::DecideBy => model::decide_by(&self.base, 0, self.at, &LIST, &self.group).into(),
+            Call::ReportBy => number(model::report_by(&self.base, self.at, &LIST, out)),
         }
     }
 }
@@ -183,6 +197,7 @@ pub fn cases() -> Vec<Case> {
         report("report full base", &full),
         report("report from above", &above),
     ];
+    cases.extend(by_list());
     let plans = twin::worst::all().map(|(name, plan)| (name, plan.bytes()));
     let made = worst::all().map(|(name, base)| (name, base.bytes()));
     let reports = plans.into_iter().chain(made);
@@ -198,6 +213,34 @@ pub fn cases() -> Vec<Case> {
         case(&name, Call::Conflicts, &base, &[])
     }));
     cases
+}
+
+/// Decisions and reports by a list, on the bases of those without one, on bases
+/// whose policies rival and on the dearest ones.
+fn by_list() -> Vec<Case> {
+    let six: Vec<u8> = (0..6).flat_map(|i| [i, i]).collect();
+    let six_below: Vec<u8> = (0..6).flat_map(|i| [i, i + 2]).collect();
+    let bases = [
+        ("small shop", small_shop(), vec![0, 0, 2, 2]),
+        ("typical shop", typical_shop(), vec![0, 0, 6, 3]),
+        ("full base", full_base(), six.clone()),
+        ("from above", from_above(), six_below),
+        ("rivals", rivals(), six.clone()),
+        ("overrides", overrides(), six),
+    ];
+    let bases = bases.map(|(name, base, group)| (name, base.bytes(), group));
+    let decisions = bases
+        .iter()
+        .map(|(name, base, group)| case(&format!("decide_by {name}"), Call::DecideBy, base, group));
+    let dearest = [
+        ("by numbers", worst::by_numbers().bytes()),
+        ("no takers", worst::no_takers().bytes()),
+    ];
+    let some = bases.iter().map(|(name, base, _)| (*name, base));
+    let reports = some.chain(dearest.iter().map(|(name, base)| (*name, base)));
+    let reports =
+        reports.map(|(name, base)| case(&format!("report_by {name}"), Call::ReportBy, base, &[]));
+    decisions.chain(reports).collect()
 }
 
 /// A report on a base.
@@ -232,12 +275,9 @@ mod tests {
         for case in cases() {
             let answers = ALL.map(|who| case.answer(who, &mut [0; 3 * 2_784]));
             assert!(answers.iter().all(|answer| *answer == answers[0]));
-            let unmet = ["decide full base", "decide from above", "ask full base"];
-            let refusal = if unmet.contains(&&case.name[..]) {
-                17
-            } else {
-                0
-            };
+            let decides = matches!(case.call, Call::Decide | Call::DecideBy | Call::Ask);
+            let shop = case.name.ends_with("shop");
+            let refusal = if decides && !shop { 17 } else { 0 };
             assert_eq!(answers[0] % 256, refusal, "{}", case.name);
         }
     }

@@ -75,12 +75,21 @@ mod tests {
     #[test]
     fn a_report_takes_less_than_48_000_bytes() {
         let all = cases().into_iter();
-        for case in all.filter(|case| case.call == Call::Report) {
+        for case in all.filter(|case| matches!(case.call, Call::Report | Call::ReportBy)) {
             for who in [Who::Twin, Who::Library] {
                 let taken = bytes_by(&case, who);
                 assert!(taken < 48_000, "{}: {taken} by {who:?}", case.name);
                 call_within(1 << 16, &case, who);
             }
+        }
+    }
+
+    #[test]
+    fn every_other_call_takes_less_than_4_096_bytes() {
+        let all = cases().into_iter();
+        for case in all.filter(|case| !matches!(case.call, Call::Report | Call::ReportBy)) {
+            let taken = bytes_by(&case, Who::Library);
+            assert!(taken < 4_096, "{}: {taken}", case.name);
         }
     }
 

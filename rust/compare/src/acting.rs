@@ -62,7 +62,7 @@ impl Gain {
 /// The gain for each of a report's numbers, if nothing refuses it.
 pub fn gains(base: &[u8], at: Context, numbers: &[u8]) -> Vec<Gain> {
     let mut records = vec![0; RECORD * numbers.len()];
-    let answer = model::report_by(Reading::HeldAlone, base, at, &mut records);
+    let answer = model::report_as(Reading::HeldAlone, base, at, None, &mut records);
     assert_eq!(answer.refusal, 0);
     let held = shown::numbers(&records);
     let pairs = held.into_iter().zip(numbers);

@@ -33,7 +33,7 @@ impl Changed {
     }
 
     pub fn by_model(&self, reading: Reading, base: &[u8]) -> (u32, u32) {
-        let answer = model::bound_by(reading, base, self.policy, self.weight, &self.group);
+        let answer = model::bound_as(reading, base, self.policy, self.weight, &self.group);
         (answer.refusal.into(), answer.count)
     }
 }

@@ -85,8 +85,8 @@ mod tests {
             records.users.truncate(5);
             let base = records.bytes();
             for permission in 0..records.permissions.len() as u32 {
-                let by_trial = model::smallest_by_trial(&base, at_minute(0), permission);
-                let by_reach = model::smallest_by_reach(&base, at_minute(0), permission);
+                let by_trial = model::smallest_by_trial(&base, at_minute(0), None, permission);
+                let by_reach = model::smallest_by_reach(&base, at_minute(0), None, permission);
                 assert_eq!(by_reach, by_trial);
             }
         }

@@ -232,13 +232,13 @@ fn policy(random: &mut Random, role: u8, permission: u8, numbers: [u8; 4]) -> Po
 #[cfg(test)]
 mod tests {
     use super::*;
-    use crate::questions::{context_in_range, random_question};
+    use crate::questions::{context_in_range, random_question, Asked};
     use model::{Base, Reading};
 
     /// The smallest numbers for a base and a context in range, by a reading.
     fn numbers(reading: Reading, base: &[u8], at: model::Context) -> Vec<u8> {
         let mut records = [0; 16 * 13];
-        let answer = model::report_by(reading, base, at, &mut records);
+        let answer = model::report_as(reading, base, at, None, &mut records);
         assert_eq!(answer.refusal, 0);
         records.iter().step_by(13).copied().collect()
     }
@@ -286,8 +286,11 @@ mod tests {
             let at = context_in_range(&mut random, &records);
             let base = records.bytes();
             for permission in 0..records.permissions.len() as u32 {
-                let by_trial = model::smallest_by_trial(&base, at, permission);
-                assert_eq!(model::smallest_by_reach(&base, at, permission), by_trial);
+                let by_trial = model::smallest_by_trial(&base, at, None, permission);
+                assert_eq!(
+                    model::smallest_by_reach(&base, at, None, permission),
+                    by_trial
+                );
             }
         }
     }
@@ -317,7 +320,14 @@ mod tests {
             let base = Base::read(&bytes).expect("a lively base passes");
             for _ in 0..10 {
                 let asked = random_question(&mut random, &records, &base);
-                let by = |r| model::decide_by(r, &bytes, asked.permission, asked.at, &asked.group);
+                let by = |r| {
+                    let Asked {
+                        permission,
+                        at,
+                        group,
+                    } = &asked;
+                    model::decide_as(r, &bytes, *permission, *at, None, group)
+                };
                 found[0] += usize::from(by(reading) != by(Reading::Paper));
             }
             let at = context_in_range(&mut random, &records);

@@ -1,6 +1,6 @@
 //! Random questions to the decision: permissions, contexts and groups.
 
-use model::{Base, Context, Entry, Question, Reading};
+use model::{Base, Context, Entry, Question, Reading, Resolution};
 
 use crate::builder::BaseBuilder;
 use crate::random::Random;
@@ -34,9 +34,19 @@ pub fn at_minute(minute: u32) -> Context {
 
 /// A random question. `base` is what `records` give.
 pub fn random_question(random: &mut Random, records: &BaseBuilder, base: &Base) -> Asked {
+    random_question_by(random, records, base, Resolution::none())
+}
+
+/// A random question whose group is made for a resolution list.
+pub fn random_question_by(
+    random: &mut Random,
+    records: &BaseBuilder,
+    base: &Base,
+    resolution: Resolution,
+) -> Asked {
     let permission = any_permission(random, base.permissions.len());
     let at = any_context(random, records);
-    let group = match Question::new(base, permission, at, Reading::Paper) {
+    let group = match Question::by(resolution, base, permission, at, Reading::Paper) {
         Ok(question) => any_group(random, &question),
         Err(_) => loose_group(random),
     };

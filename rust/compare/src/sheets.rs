@@ -44,12 +44,12 @@ impl SheetCall {
     pub fn by_model(self, reading: Reading, base: &[u8], sheet: &mut Sheet) -> u8 {
         match self {
             SheetCall::Open { permission } => {
-                model::sheet_open_by(reading, base, permission, sheet)
+                model::sheet_open_as(reading, base, permission, sheet)
             }
             SheetCall::Sign { user, role } => {
-                model::sheet_sign_by(reading, base, user, role, sheet)
+                model::sheet_sign_as(reading, base, user, role, sheet)
             }
-            SheetCall::Ask { at } => model::sheet_ask_by(reading, base, at, sheet),
+            SheetCall::Ask { at } => model::sheet_ask_as(reading, base, at, sheet),
         }
     }
 }

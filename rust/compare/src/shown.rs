@@ -1,8 +1,9 @@
 //! The records of a report, and what has to hold of them.
 
-use model::Context;
+use model::{Context, Reading};
 
 use crate::library_decision;
+use crate::lists::List;
 use crate::questions::Asked;
 
 /// Bytes of a permission's record: k and six entries.
@@ -18,21 +19,29 @@ pub fn numbers(records: &[u8]) -> Vec<u8> {
 }
 
 /// What is wrong with the first of these records, in the order of permissions,
-/// that has a fault. `smallest` has each permission's smallest number.
-pub fn fault(base: &[u8], at: Context, records: &[u8], smallest: &[u8]) -> Option<String> {
+/// that has a fault. `smallest` has each permission's smallest number. The
+/// report was by a list or without one.
+pub fn fault(
+    base: &[u8],
+    at: Context,
+    list: List,
+    records: &[u8],
+    smallest: &[u8],
+) -> Option<String> {
     let records = records.chunks_exact(RECORD).zip(smallest);
     let mut faults = (0..).zip(records).filter_map(|(permission, (record, k))| {
-        let fault = record_fault(base, at, permission, record, *k)?;
+        let fault = record_fault(base, at, list, permission, record, *k)?;
         Some(format!("permission {permission}, {record:?}: {fault}"))
     });
     faults.next()
 }
 
-/// Which smallest group is shown is free. It has to be granted, and stands by
-/// rising user.
+/// Which smallest group is shown is free. It has to be granted, by the same list
+/// or without one, and stands by rising user.
 fn record_fault(
     base: &[u8],
     at: Context,
+    list: List,
     permission: u32,
     record: &[u8],
     smallest: u8,
@@ -52,10 +61,11 @@ fn record_fault(
         at,
         group: group.to_vec(),
     };
-    if smallest > 0 && model::decide(base, permission, at, group) != 0 {
+    let by_model = model::decide_as(Reading::Paper, base, permission, at, list, group);
+    if smallest > 0 && by_model != 0 {
         return Some("the model doesn't grant the group");
     }
-    if smallest > 0 && library_decision(base, &asked) != 0 {
+    if smallest > 0 && library_decision(base, list, &asked) != 0 {
         return Some("the library doesn't grant the group");
     }
     None
@@ -78,7 +88,7 @@ mod tests {
     fn fault_of(start: &[u8], left: u8) -> Option<&'static str> {
         let mut record = [left; RECORD];
         record[..start.len()].copy_from_slice(start);
-        record_fault(&small_shop().bytes(), at_minute(600), 0, &record, 2)
+        record_fault(&small_shop().bytes(), at_minute(600), None, 0, &record, 2)
     }
 
     #[test]
@@ -111,6 +121,21 @@ mod tests {
         }
     }
 
+    /// The buyer's policy made a second one of the manager, from a later day on:
+    /// by rule 0 the manager weighs 2, the other roles 1.
+    #[test]
+    fn a_group_that_is_not_granted_by_the_list_is_a_fault() {
+        let mut shop = small_shop();
+        (shop.policies[1].role, shop.policies[1].issue_day) = (0, 1);
+        let mut record = [255; RECORD];
+        record[..5].copy_from_slice(&[2, 0, 0, 2, 2]);
+        let fault_by = |list| record_fault(&shop.bytes(), at_minute(600), list, 0, &record, 2);
+        assert_eq!([None, Some(&[1][..])].map(fault_by), [None; 2]);
+        let refused = Some("the model doesn't grant the group");
+        assert_eq!(fault_by(Some(&[0])), refused);
+        assert_eq!(fault_by(Some(&[])), refused);
+    }
+
     #[test]
     fn a_byte_left_that_is_not_255_is_a_fault() {
         let start = [2, 0, 0, 2, 2];
@@ -126,7 +151,7 @@ mod tests {
     fn the_first_record_with_a_fault_is_named() {
         let records = [[0; RECORD], [255; RECORD]].concat();
         let base = small_shop().bytes();
-        let fault = fault(&base, at_minute(600), &records, &[0, 0]).expect("a fault");
+        let fault = fault(&base, at_minute(600), None, &records, &[0, 0]).expect("a fault");
         assert!(fault.starts_with("permission 0, [0, 0,"), "{fault}");
         assert_eq!(numbers(&records), [0, 255]);
     }

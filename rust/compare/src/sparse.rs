@@ -99,7 +99,7 @@ mod tests {
             let bytes = sparse_base(&mut random, 24).bytes();
             let base = Base::read(&bytes).expect("a sparse base passes");
             for permission in 0..base.permissions.len() as u32 {
-                let k = model::smallest_by_reach(&bytes, at_minute(0), permission);
+                let k = model::smallest_by_reach(&bytes, at_minute(0), None, permission);
                 tally[usize::from(k)] += 1;
             }
         }
@@ -112,8 +112,8 @@ mod tests {
         for _ in 0..40 {
             let base = sparse_base(&mut random, 6).bytes();
             for permission in 0..crate::permission_count(&base) as u32 {
-                let by_trial = model::smallest_by_trial(&base, at_minute(0), permission);
-                let by_reach = model::smallest_by_reach(&base, at_minute(0), permission);
+                let by_trial = model::smallest_by_trial(&base, at_minute(0), None, permission);
+                let by_reach = model::smallest_by_reach(&base, at_minute(0), None, permission);
                 assert_eq!(by_reach, by_trial);
             }
         }

@@ -8,15 +8,17 @@ use compare::changes::random_change;
 use compare::clashing::clashing_base;
 use compare::damage::*;
 use compare::lent::Lent;
+use compare::lists::{any_list, List};
 use compare::lively::{full_base, heavy_base, lively_base};
 use compare::mornings::{loose_sheets, morning, Morning};
-use compare::questions::{any_context, any_permission, random_question};
+use compare::questions::{any_context, any_permission, random_question, Asked};
 use compare::random::Random;
+use compare::rivals::rival_base;
 use compare::sheets::SheetCall;
 use compare::shown::{self, RECORD};
 use compare::sparse::sparse_base;
 use compare::valid::{random_base, Size};
-use compare::{library_context, permission_count};
+use compare::{library_decision, library_report, permission_count};
 use model::{Base, Context};
 use twin::worst;
 
@@ -27,7 +29,9 @@ const SHEET: usize = 14;
 fn compare_calls(random: &mut Random, base: &[u8], at: Context) {
     assert_eq!(u32::from(twin::check(base)), release::answers::check(base));
     let length = random.pick(&[0, 12, 13, 50, 16 * RECORD, 16 * RECORD + 9]);
-    compare_report(random, base, at, length);
+    compare_report(random, base, at, None, length);
+    let list = any_list(random);
+    compare_report(random, base, at, Some(&list), length);
 
     let whole = 3 * release::answers::conflicts(base, &mut []).count as usize;
     let length = random.pick(&[whole, whole + 7, whole.saturating_sub(1)]);
@@ -41,11 +45,14 @@ fn compare_calls(random: &mut Random, base: &[u8], at: Context) {
 
 /// Asserts that the two agree on the report into so many bytes. The library's
 /// refusal.
-fn compare_report(random: &mut Random, base: &[u8], at: Context, length: usize) -> u32 {
+fn compare_report(random: &mut Random, base: &[u8], at: Context, list: List, length: usize) -> u32 {
     let mut by_library = Lent::noisy(random, length);
     let mut by_twin = by_library.clone();
-    let library = release::answers::report(base, library_context(at), by_library.buffer());
-    let twin = twin::report(base, at, by_twin.buffer());
+    let library = library_report(base, at, list, by_library.buffer());
+    let twin = match list {
+        None => twin::report(base, at, by_twin.buffer()),
+        Some(list) => twin::report_by(base, at, list, by_twin.buffer()),
+    };
     assert_eq!((u32::from(twin.refusal), twin.count), numbers(library));
     if library.refusal == 0 {
         let written = RECORD * permission_count(base);
@@ -62,10 +69,18 @@ fn numbers(answer: release::answers::Answer) -> (u32, u32) {
     (answer.refusal, answer.count)
 }
 
-/// Asserts that the two decide alike.
-fn compare_decision(base: &[u8], permission: u32, at: Context, group: &[u8]) {
-    let by_twin = twin::decide(base, permission, at, group);
-    let by_library = release::answers::decide(base, permission, library_context(at), group);
+/// Asserts that the two decide alike, without a list and by one.
+fn compare_decision(random: &mut Random, base: &[u8], asked: &Asked) {
+    let Asked {
+        permission,
+        at,
+        group,
+    } = asked;
+    let by_twin = twin::decide(base, *permission, *at, group);
+    assert_eq!(u32::from(by_twin), library_decision(base, None, asked));
+    let list = any_list(random);
+    let by_twin = twin::decide_by(base, *permission, *at, &list, group);
+    let by_library = library_decision(base, Some(&list), asked);
     assert_eq!(u32::from(by_twin), by_library);
 }
 
@@ -90,7 +105,8 @@ fn sound_base(random: &mut Random) -> BaseBuilder {
         2 => full_base(random),
         3 => heavy_base(random),
         4..=6 => sparse_base(random, 24),
-        7..=8 => clashing_base(random),
+        7 => clashing_base(random),
+        8 => rival_base(random, 24),
         9..=12 => {
             let roles = random.between(1, 8);
             capped_base(random, roles)
@@ -110,12 +126,12 @@ fn seeded_comparison() {
         let base = Base::read(&image.bytes).expect("the base passes");
         for _ in 0..4 {
             let asked = random_question(&mut random, &records, &base);
-            compare_decision(&image.bytes, asked.permission, asked.at, &asked.group);
+            compare_decision(&mut random, &image.bytes, &asked);
             let changed = random_change(&mut random, &base);
             compare_bound(&image.bytes, &changed);
             let damaged = any_damage(&mut random, &image);
             compare_calls(&mut random, &damaged, at);
-            compare_decision(&damaged, asked.permission, asked.at, &asked.group);
+            compare_decision(&mut random, &damaged, &asked);
             compare_bound(&damaged, &changed);
         }
     }
@@ -129,7 +145,7 @@ fn loose_bytes() {
         let at = any_context(&mut random, &BaseBuilder::new(1));
         compare_calls(&mut random, &base, at);
         let permission = any_permission(&mut random, 16);
-        compare_decision(&base, permission, at, &[0, 0]);
+        compare_decision(&mut random, &base, &Asked::new(permission, at, &[[0, 0]]));
         compare_bound(&base, &Changed::new(permission, 1, &[[0, 0]]));
         let calls = [
             SheetCall::Open { permission },
@@ -147,8 +163,10 @@ fn worst_bases() {
     let mut random = Random::new(83);
     for (name, plan) in worst::all() {
         let at = compare::questions::at_minute(0);
-        let refusal = compare_report(&mut random, &plan.bytes(), at, 16 * RECORD);
-        assert_eq!(refusal, 0, "{name}");
+        for list in [None, Some(&[0, 1, 2][..])] {
+            let refusal = compare_report(&mut random, &plan.bytes(), at, list, 16 * RECORD);
+            assert_eq!(refusal, 0, "{name}");
+        }
     }
 }
 

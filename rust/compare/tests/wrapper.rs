@@ -3,13 +3,16 @@
 use compare::builder::{BaseBuilder, User};
 use compare::cases::*;
 use compare::clashing::clashing_base;
-use compare::questions::{at_minute, Asked};
+use compare::lists::{ILLEGAL, LEGAL};
+use compare::questions::{at_minute, random_question, Asked};
 use compare::random::Random;
+use compare::rivals::rival_base;
 use compare::shop::small_shop;
 use compare::{library_context, permission_count};
+use model::Base;
 use release::answers::{self, Answer};
 use release::example::SMALL_SHOP;
-use release::{Context, Entry, Permission, Refusal, Report, Sheet, SHEET_BYTES};
+use release::{Context, Entry, Permission, Refusal, Report, Resolution, Sheet, SHEET_BYTES};
 
 /// A result's refusal as a number, 0 for none.
 fn number<T>(result: &Result<T, Refusal>) -> u32 {
@@ -37,6 +40,54 @@ fn expect_decision(base: &[u8], at: Context, asked: &Asked) {
         let group: Vec<Entry> = pairs.map(|pair| Entry::new(pair[0], pair[1])).collect();
         let decided = release::decide(base, asked.permission, at, &group);
         assert_eq!(number(&decided), expected);
+    }
+}
+
+/// By lists, legal and not: the library's own answers, and the model's.
+fn expect_by_lists(base: &[u8], asked: &Asked) {
+    for list in LEGAL.into_iter().chain(ILLEGAL) {
+        let typed = Resolution::from_bytes(list);
+        assert_eq!(typed.is_some(), LEGAL.contains(&list));
+        expect_decision_by(base, asked, list, typed);
+        expect_report_by(base, asked.at, list, typed);
+    }
+}
+
+fn expect_decision_by(base: &[u8], asked: &Asked, list: &[u8], typed: Option<Resolution>) {
+    let Asked {
+        permission, group, ..
+    } = asked;
+    let at = library_context(asked.at);
+    let expected = answers::decide_by(base, *permission, at, list, group);
+    let by_model = model::decide_by(base, *permission, asked.at, list, group);
+    assert_eq!(expected, u32::from(by_model));
+    let decided = release::decide_by_bytes(base, *permission, at, list, group);
+    assert_eq!(number(&decided), expected);
+    let pairs = group.chunks_exact(2);
+    if let (Some(resolution), []) = (typed, pairs.remainder()) {
+        let group: Vec<Entry> = pairs.map(|pair| Entry::new(pair[0], pair[1])).collect();
+        let by_type = release::decide_by(base, *permission, at, resolution, &group);
+        assert_eq!(by_type, decided);
+    }
+}
+
+fn expect_report_by(base: &[u8], at: model::Context, list: &[u8], typed: Option<Resolution>) {
+    let mut out = vec![0; release::PERMISSION_BYTES * permission_count(base)];
+    let expected = answers::report_by(base, library_context(at), list, &mut out);
+    let mut by_model = out.clone();
+    let by_model = model::report_by(base, at, list, &mut by_model);
+    let by_model = (u32::from(by_model.refusal), by_model.count);
+    assert_eq!((expected.refusal, expected.count), by_model);
+    let mut again = vec![7; out.len()];
+    let written = release::report_by_into(base, library_context(at), list, &mut again);
+    assert_eq!(answer(&written, |count| *count), expected);
+    if let Some(resolution) = typed {
+        let reported = release::report_by(base, library_context(at), resolution);
+        assert_eq!(answer(&reported, Report::count), expected);
+        if let Ok(report) = reported {
+            assert_eq!(report.bytes(), out);
+            assert_eq!(told(&report), again);
+        }
     }
 }
 
@@ -214,6 +265,21 @@ fn other_bytes() {
 }
 
 #[test]
+fn by_lists() {
+    lively_bases(87, 20, expect_by_lists);
+    full_bases(88, 2, expect_by_lists);
+    damaged_bases(89, 20, expect_by_lists);
+    loose_bytes(90, 200, expect_by_lists);
+    let mut random = Random::new(91);
+    for _ in 0..100 {
+        let records = rival_base(&mut random, 6);
+        let base = Base::read(&records.bytes()).expect("the base passes");
+        let asked = random_question(&mut random, &records, &base);
+        expect_by_lists(&records.bytes(), &asked);
+    }
+}
+
+#[test]
 fn many_conflicts() {
     let mut random = Random::new(86);
     let bases = std::iter::repeat_with(|| clashing_base(&mut random).bytes());
@@ -235,6 +301,7 @@ fn a_full_sheet() {
 fn the_shortest_base_and_no_bytes() {
     for base in [BaseBuilder::new(1).bytes(), vec![]] {
         expect_all(&base, &Asked::new(0, at_minute(0), &[]));
+        expect_by_lists(&base, &Asked::new(0, at_minute(0), &[]));
     }
 }
 

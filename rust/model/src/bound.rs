@@ -13,11 +13,11 @@ use crate::seniority::{chains, Seniority};
 /// The bound for a group, a policy's number and a new weight; or the first of
 /// refusals 1 to 9, 12 to 15 and 21 that applies, and 0.
 pub fn bound(base: &[u8], policy: u32, weight: u32, group: &[u8]) -> Answer {
-    bound_by(Reading::Paper, base, policy, weight, group)
+    bound_as(Reading::Paper, base, policy, weight, group)
 }
 
 /// The bound by this reading.
-pub fn bound_by(reading: Reading, base: &[u8], policy: u32, weight: u32, group: &[u8]) -> Answer {
+pub fn bound_as(reading: Reading, base: &[u8], policy: u32, weight: u32, group: &[u8]) -> Answer {
     let bound = Base::read(base).and_then(|base| {
         let change = Change::by(reading, &base, policy, weight);
         if reading == Reading::ChangeFirst && change.is_none() {
@@ -123,6 +123,7 @@ impl<'a> Change<'a> {
 mod tests {
     use super::*;
     use crate::decision::decide;
+    use crate::resolution::Resolution;
     use crate::samples::*;
     use crate::weight::Situation;
 
@@ -282,6 +283,51 @@ mod tests {
         assert!(reached >= 1_000, "{reached}");
     }
 
+    /// By rule 2 another policy may be chosen after the change.
+    #[test]
+    fn by_no_list_does_a_sum_shift_by_more() {
+        let mut draws = Draws::new(6);
+        let (mut reached, mut in_part) = (0, 0);
+        for _ in 0..1_000 {
+            let base = random_rivals(&mut draws, 6);
+            let policy = draws.below(base.policies.len()) as u32;
+            let weight = draws.byte(1, 5).into();
+            let change = Change::new(&base, policy, weight).expect("nothing refuses it");
+            let changed = change.changed_base();
+            let group = any_bytes(&mut draws);
+            let bound = change.bound(&group);
+            for list in LISTS {
+                let [old, new] = [&base, &changed].map(|base| sum_by(list, base, &group));
+                let shift = old.abs_diff(new) as usize;
+                assert!(shift <= bound, "{shift} of {bound} by {list:?}");
+                reached += usize::from(0 < bound && shift == bound);
+                in_part += usize::from(0 < shift && shift < bound);
+            }
+        }
+        assert!(reached >= 500 && in_part >= 500, "{reached}, {in_part}");
+    }
+
+    fn sum_by(list: &[u8], base: &Base, group: &[u8]) -> u32 {
+        let resolution = Resolution::read(list).expect("the list is legal");
+        Situation::by(resolution, base, at_minute(600), Reading::Paper).sum(0, group)
+    }
+
+    /// Of weights 2 and 4 the first counts by rule 2; with 5 in its place the
+    /// second does: a shift of 2 where the bound is 3.
+    #[test]
+    fn a_choice_that_changes_shifts_less_than_the_bound() {
+        let mut base = small_shop();
+        base.policies = vec![issued(0, 0, 2), issued(0, 0, 4)];
+        let change = Change::new(&base, 0, 5).expect("nothing refuses it");
+        let changed = change.changed_base();
+        let sums = |list| [&base, &changed].map(|base| sum_by(list, base, &MANAGER));
+        assert_eq!(change.bound(&MANAGER), 3);
+        assert_eq!(
+            [sums(&[2]), sums(&[0]), sums(&[1, 2])],
+            [[2, 4], [2, 5], [2, 4]]
+        );
+    }
+
     /// Its refusals 12 to 15 are the decision's.
     #[test]
     fn a_group_that_the_decision_gets_past_15_has_a_bound() {
@@ -301,7 +347,7 @@ mod tests {
     /// The small shop's answer by a reading.
     fn by(reading: Reading, policy: u32, weight: u32, group: &[[u8; 2]]) -> (u8, u32) {
         let Answer { refusal, count } =
-            bound_by(reading, &SMALL_SHOP, policy, weight, &group.concat());
+            bound_as(reading, &SMALL_SHOP, policy, weight, &group.concat());
         (refusal, count)
     }
 
@@ -354,6 +400,6 @@ mod tests {
         assert_eq!(by(wrong, 3, 5, &[]), (21, 0));
         assert_eq!(by(wrong, 0, 6, &[[2, 1]]), (21, 0));
         assert_eq!(by(wrong, 0, 5, &[[2, 1]]), (15, 0));
-        assert_eq!(bound_by(wrong, &[], 3, 6, &[]).refusal, 1);
+        assert_eq!(bound_as(wrong, &[], 3, 6, &[]).refusal, 1);
     }
 }

@@ -16,11 +16,11 @@ pub type Conflict = [u8; 3];
 /// Writes the list of conflicts; later bytes keep their contents. Refusal 18
 /// carries the number of records, and no refusal writes.
 pub fn conflicts(base: &[u8], out: &mut [u8]) -> Answer {
-    conflicts_by(Reading::Paper, base, out)
+    conflicts_as(Reading::Paper, base, out)
 }
 
 /// The list by this reading.
-pub fn conflicts_by(reading: Reading, base: &[u8], out: &mut [u8]) -> Answer {
+pub fn conflicts_as(reading: Reading, base: &[u8], out: &mut [u8]) -> Answer {
     let base = match Base::read(base) {
         Ok(base) => base,
         Err(refusal) => return Answer::refused(refusal),

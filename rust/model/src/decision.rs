@@ -6,19 +6,38 @@ use crate::context::Context;
 use crate::group::{Attributes, Entry};
 use crate::reading::Reading;
 use crate::refusal::{number, refuse_if, Refusal};
+use crate::resolution::Resolution;
 use crate::roles::Role;
 use crate::weight::Situation;
 
 /// 0 if the group is granted the permission, else the first of refusals 1 to
 /// 17 that applies.
 pub fn decide(base: &[u8], permission: u32, at: Context, group: &[u8]) -> u8 {
-    decide_by(Reading::Paper, base, permission, at, group)
+    decide_as(Reading::Paper, base, permission, at, None, group)
 }
 
-/// The decision by this reading.
-pub fn decide_by(reading: Reading, base: &[u8], permission: u32, at: Context, group: &[u8]) -> u8 {
+/// The same by a resolution list: the first of refusals 1 to 9, 22, 10, 11 and
+/// 12 to 17.
+pub fn decide_by(base: &[u8], permission: u32, at: Context, list: &[u8], group: &[u8]) -> u8 {
+    decide_as(Reading::Paper, base, permission, at, Some(list), group)
+}
+
+/// The decision by this reading, with a list or without.
+pub fn decide_as(
+    reading: Reading,
+    base: &[u8],
+    permission: u32,
+    at: Context,
+    list: Option<&[u8]>,
+    group: &[u8],
+) -> u8 {
     number(Base::read(base).and_then(|base| {
-        let question = Question::new(&base, permission, at, reading)?;
+        if reading == Reading::ListAfterPermission {
+            let permission = base.permission(permission);
+            permission.ok_or(Refusal::NoPermission)?;
+        }
+        let resolution = Resolution::lent(reading, list)?;
+        let question = Question::by(resolution, &base, permission, at, reading)?;
         question.ask(group)
     }))
 }
@@ -34,7 +53,18 @@ pub struct Question<'a> {
 }
 
 impl<'a> Question<'a> {
+    /// Without a resolution list.
     pub fn new(
+        base: &'a Base,
+        permission: u32,
+        at: Context,
+        reading: Reading,
+    ) -> Result<Question<'a>, Refusal> {
+        Question::by(Resolution::none(), base, permission, at, reading)
+    }
+
+    pub fn by(
+        resolution: Resolution,
         base: &'a Base,
         permission: u32,
         at: Context,
@@ -42,7 +72,7 @@ impl<'a> Question<'a> {
     ) -> Result<Question<'a>, Refusal> {
         let permission = base.permission(permission).ok_or(Refusal::NoPermission)?;
         refuse_if(!at.in_range(), Refusal::Context)?;
-        let situation = Situation::new(base, at, reading);
+        let situation = Situation::by(resolution, base, at, reading);
         let weights = (0..base.roles)
             .map(|role| situation.weight(role, permission))
             .collect();
@@ -182,6 +212,56 @@ mod tests {
         assert_eq!(decide(&[], 1, at_minute(1440), &[]), 1);
     }
 
+    /// The small shop's answer by a list, for any permission, minute and group.
+    fn ask_by(reading: Reading, permission: u32, minute: u32, list: &[u8], group: &[u8]) -> u8 {
+        let at = at_minute(minute);
+        decide_as(reading, &SMALL_SHOP, permission, at, Some(list), group)
+    }
+
+    #[test]
+    fn a_list_is_refused_behind_the_base_and_before_the_permission() {
+        let by = |permission, minute, list, group: &[u8]| {
+            ask_by(Reading::Paper, permission, minute, list, group)
+        };
+        for list in [&[][..], &[0, 0], &[3], &[0, 1, 2, 0]] {
+            let no_base = decide_by(&SMALL_SHOP[1..], 1, at_minute(1440), list, &[]);
+            assert_eq!(no_base, 3);
+            assert_eq!(by(1, 1440, list, &[]), 22);
+            assert_eq!(by(0, 1440, list, &[]), 22);
+            assert_eq!(by(0, 600, list, &[]), 22);
+            assert_eq!(by(0, 600, list, &[0, 0, 2, 2]), 22);
+        }
+        assert_eq!(by(1, 1440, &[2, 0, 1], &[]), 10);
+        assert_eq!(by(0, 1440, &[2, 0, 1], &[]), 11);
+        assert_eq!(by(0, 600, &[2, 0, 1], &[]), 12);
+        assert_eq!(by(0, 600, &[2, 0, 1], &[0, 0, 2, 2]), 0);
+    }
+
+    #[test]
+    fn a_wrong_reading_refuses_a_list_behind_the_permission() {
+        let wrong = Reading::ListAfterPermission;
+        assert_eq!(ask_by(wrong, 1, 1440, &[], &[]), 10);
+        assert_eq!(ask_by(wrong, 0, 1440, &[], &[]), 22);
+        let no_list = decide_as(wrong, &SMALL_SHOP, 1, at_minute(1440), None, &[]);
+        assert_eq!(no_list, 10);
+    }
+
+    /// Each role of the small shop has one policy at most.
+    #[test]
+    fn without_rivals_a_list_changes_nothing() {
+        let groups = [&[MANAGER][..], &[MANAGER, CLERK], &[BUYER, CLERK]];
+        for list in LISTS {
+            for group in groups {
+                let by_list = |minute| {
+                    let group = group.concat();
+                    ask_by(Reading::Paper, 0, minute, list, &group)
+                };
+                let without = [480, 600].map(|minute| ask(minute, group));
+                assert_eq!([480, 600].map(by_list), without);
+            }
+        }
+    }
+
     #[test]
     fn numbers_are_not_cut_to_bytes() {
         let zone = |zone| Context {
@@ -302,7 +382,7 @@ mod tests {
         assert_eq!([2, 5].map(|value| by(Reading::Paper, value)), [0, 17]);
         let wrong = Reading::SeniorsWeight;
         assert_eq!([2, 5].map(|value| by(wrong, value)), [17, 0]);
-        let early = decide_by(wrong, &SMALL_SHOP, 0, at_minute(480), &[0, 2, 1, 1]);
+        let early = decide_as(wrong, &SMALL_SHOP, 0, at_minute(480), None, &[0, 2, 1, 1]);
         assert_eq!(early, 0);
     }
 

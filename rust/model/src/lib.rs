@@ -9,6 +9,7 @@ mod answer;
 mod base;
 mod bound;
 mod check;
+mod choice;
 mod conflicts;
 mod context;
 mod decision;
@@ -23,6 +24,7 @@ mod refusal;
 mod related;
 mod release_list;
 mod report;
+mod resolution;
 mod roles;
 #[cfg(test)]
 mod samples;
@@ -35,11 +37,12 @@ mod weight;
 pub use acting::Acting;
 pub use answer::Answer;
 pub use base::Base;
-pub use bound::{bound, bound_by, Change};
+pub use bound::{bound, bound_as, Change};
 pub use check::check;
-pub use conflicts::{conflict_list, conflicts, conflicts_by, Conflict};
+pub use choice::{Choice, Choices};
+pub use conflicts::{conflict_list, conflicts, conflicts_as, Conflict};
 pub use context::Context;
-pub use decision::{decide, decide_by, Question};
+pub use decision::{decide, decide_as, decide_by, Question};
 pub use group::{Attributes, Entry};
 pub use operator::Comparison;
 pub use reading::Reading;
@@ -50,11 +53,12 @@ pub use records::{
 pub use refusal::Refusal;
 pub use related::{related_by_trial, Relations};
 pub use release_list::{lines, render};
-pub use report::{report, report_by};
+pub use report::{report, report_as, report_by};
+pub use resolution::{Numbered, Resolution, Rule};
 pub use roles::{Role, RoleSet};
 pub use seniority::Seniority;
 pub use sheet::{
-    sheet_ask, sheet_ask_by, sheet_open, sheet_open_by, sheet_sign, sheet_sign_by, Sheet,
+    sheet_ask, sheet_ask_as, sheet_open, sheet_open_as, sheet_sign, sheet_sign_as, Sheet,
 };
 pub use signings::{accepted, sheet_holding, Signing};
 pub use smallest::{smallest_by_reach, smallest_by_trial, smallest_group};

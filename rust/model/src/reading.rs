@@ -1,9 +1,9 @@
 //! How the rules are read.
 
 /// The paper's reading with the requests', or a wrong one: those that the paper
-/// warns of, and some of the conflict list, of sheets, of who may act as what
-/// and of what a changed weight can shift. A test can take a wrong one to show
-/// that the comparison notices it.
+/// warns of, and some of the conflict list, of sheets, of who may act as what,
+/// of what a changed weight can shift and of which policy goes before. A test
+/// can take a wrong one to show that the comparison notices it.
 #[derive(Clone, Copy, Debug, Default, PartialEq, Eq)]
 pub enum Reading {
     #[default]
@@ -70,6 +70,36 @@ pub enum Reading {
     EntriesForgotten,
     /// A bound is refused by 21 before the group is looked at.
     ChangeFirst,
+    /// By rule 0 the earlier issue day goes first.
+    EarlierDay,
+    /// By rule 1 the smaller rank number goes first.
+    SmallerRank,
+    /// By rule 2 the larger weight goes first.
+    LargerWeight,
+    /// A list's last rule decides first.
+    LastRuleFirst,
+    /// Only a list's first rule decides.
+    FirstRuleAlone,
+    /// Where no rule of a list tells policies apart, the last one counts.
+    LastOfEqual,
+    /// By a list, inh is the weight of the policy chosen in own, and 0 where
+    /// that is of type 0.
+    InhOfOwn,
+    /// A list's rules choose among inactive policies too; where they choose one,
+    /// the weight is 0.
+    InactiveToo,
+    /// A decision is refused by 22 after 10.
+    ListAfterPermission,
+    /// A report goes by table order, whatever the list.
+    ListIgnored,
+    /// An empty list is no list.
+    EmptyAsNone,
+    /// Of a list only the first three bytes are looked at.
+    FirstThreeBytes,
+    /// A list may have a rule twice.
+    RepeatsAllowed,
+    /// Another byte in a list tells no policies apart.
+    OtherBytesAllowed,
 }
 
 impl Reading {
@@ -119,6 +149,24 @@ impl Reading {
         Reading::FirstAlone,
         Reading::EntriesForgotten,
         Reading::ChangeFirst,
+    ];
+
+    /// Wrong readings that only a resolution list shows.
+    pub const WRONG_OF_RESOLUTION: [Reading; 14] = [
+        Reading::EarlierDay,
+        Reading::SmallerRank,
+        Reading::LargerWeight,
+        Reading::LastRuleFirst,
+        Reading::FirstRuleAlone,
+        Reading::LastOfEqual,
+        Reading::InhOfOwn,
+        Reading::InactiveToo,
+        Reading::ListAfterPermission,
+        Reading::ListIgnored,
+        Reading::EmptyAsNone,
+        Reading::FirstThreeBytes,
+        Reading::RepeatsAllowed,
+        Reading::OtherBytesAllowed,
     ];
 }
 

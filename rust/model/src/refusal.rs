@@ -24,10 +24,11 @@ pub enum Refusal {
     ReportBuffer = 19,
     SheetFull = 20,
     NoPolicyOrWeight = 21,
+    Resolution = 22,
 }
 
 impl Refusal {
-    /// The refusal's place in the list.
+    /// The refusal's number.
     pub fn number(self) -> u8 {
         self as u8
     }

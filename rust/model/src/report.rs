@@ -7,6 +7,7 @@ use crate::decision::Question;
 use crate::group::Entry;
 use crate::reading::Reading;
 use crate::refusal::{refuse_if, Refusal};
+use crate::resolution::Resolution;
 use crate::smallest::{heaviest_group, smallest_group};
 
 /// Bytes of a permission's record: k and six entries.
@@ -19,12 +20,23 @@ const LEFT: u8 = 255;
 /// entries and the group, by rising user. Later bytes keep their contents.
 /// The answer carries how many permissions have a group. No refusal writes.
 pub fn report(base: &[u8], at: Context, out: &mut [u8]) -> Answer {
-    report_by(Reading::Paper, base, at, out)
+    report_as(Reading::Paper, base, at, None, out)
 }
 
-/// The report by this reading.
-pub fn report_by(reading: Reading, base: &[u8], at: Context, out: &mut [u8]) -> Answer {
-    let groups = match groups_to_show(reading, base, at, out.len()) {
+/// The same by a resolution list: the first of refusals 1 to 9, 22, 11 and 19.
+pub fn report_by(base: &[u8], at: Context, list: &[u8], out: &mut [u8]) -> Answer {
+    report_as(Reading::Paper, base, at, Some(list), out)
+}
+
+/// The report by this reading, with a list or without.
+pub fn report_as(
+    reading: Reading,
+    base: &[u8],
+    at: Context,
+    list: Option<&[u8]>,
+    out: &mut [u8],
+) -> Answer {
+    let groups = match groups_to_show(reading, base, at, list, out.len()) {
         Ok(groups) => groups,
         Err(refusal) => return Answer::refused(refusal),
     };
@@ -40,9 +52,15 @@ fn groups_to_show(
     reading: Reading,
     base: &[u8],
     at: Context,
+    list: Option<&[u8]>,
     room: usize,
 ) -> Result<Vec<Vec<Entry>>, Refusal> {
     let base = Base::read(base)?;
+    let lent = Resolution::lent(reading, list)?;
+    let resolution = match reading {
+        Reading::ListIgnored => Resolution::none(),
+        _ => lent,
+    };
     refuse_if(!at.in_range(), Refusal::Context)?;
     refuse_if(
         room < RECORD * base.permissions.len(),
@@ -51,7 +69,7 @@ fn groups_to_show(
     let permissions = 0..base.permissions.len() as u32;
     permissions
         .map(|permission| {
-            let question = Question::new(&base, permission, at, reading)?;
+            let question = Question::by(resolution.clone(), &base, permission, at, reading)?;
             let group = match reading {
                 Reading::HeaviestUsers => heaviest_group(&question),
                 _ => smallest_group(&question),
@@ -96,8 +114,18 @@ mod tests {
 
     /// The refusal, if nothing was written and the count is 0.
     fn refused(base: &[u8], minute: u32, room: usize) -> u8 {
+        refused_as(Reading::Paper, base, minute, None, room)
+    }
+
+    fn refused_as(
+        reading: Reading,
+        base: &[u8],
+        minute: u32,
+        list: Option<&[u8]>,
+        room: usize,
+    ) -> u8 {
         let mut out = vec![7; room];
-        let answer = report(base, at_minute(minute), &mut out);
+        let answer = report_as(reading, base, at_minute(minute), list, &mut out);
         assert_eq!((answer.count, out), (0, vec![7; room]));
         answer.refusal
     }
@@ -109,6 +137,55 @@ mod tests {
         assert_eq!(refused(&SMALL_SHOP, 1440, 13), 11);
         assert_eq!(refused(&SMALL_SHOP, 1439, 0), 19);
         assert_eq!(refused(&SMALL_SHOP, 1439, 12), 19);
+    }
+
+    #[test]
+    fn a_list_is_refused_behind_the_base_and_before_the_context() {
+        let by = |base, minute, list, room| {
+            let reading = Reading::Paper;
+            refused_as(reading, base, minute, Some(list), room)
+        };
+        for list in [&[][..], &[0, 0], &[3], &[0, 1, 2, 0]] {
+            assert_eq!(by(&SMALL_SHOP[1..], 1440, list, 0), 3);
+            assert_eq!(by(&SMALL_SHOP, 1440, list, 0), 22);
+            assert_eq!(by(&SMALL_SHOP, 600, list, 0), 22);
+            assert_eq!(by(&SMALL_SHOP, 600, list, 13), 22);
+        }
+        assert_eq!(by(&SMALL_SHOP, 1440, &[2, 0, 1], 0), 11);
+        assert_eq!(by(&SMALL_SHOP, 600, &[2, 0, 1], 12), 19);
+    }
+
+    /// The manager's policy of weight 3, with a later one of weight 1 and type 0
+    /// behind it: early the manager weighs 4 or 2, and the buyer 1.
+    #[test]
+    fn by_a_list_other_groups_suffice() {
+        let base = later_policy_behind();
+        let mut out = [7; 14];
+        let by = |list: &[u8], out: &mut [u8]| report_by(&base, at_minute(480), list, out);
+        assert_eq!(by(&[1, 0], &mut out), Answer::done(0));
+        assert_eq!(out[..2], [0, 255]);
+        assert_eq!(by(&[1], &mut out), Answer::done(1));
+        assert_eq!(out[..6], [2, 0, 0, 1, 1, 255]);
+        assert_eq!(out[13], 7);
+    }
+
+    /// The small shop with its manager's policy twice, the second time of weight
+    /// 1 and from day 1 on.
+    fn later_policy_behind() -> Vec<u8> {
+        let mut base = SMALL_SHOP.to_vec();
+        (base[100], base[102]) = (4, 86);
+        base.splice(78..78, [0, 0, 1, 0, 255, 0, 1, 0]);
+        base
+    }
+
+    #[test]
+    fn a_wrong_reading_ignores_the_list() {
+        let base = later_policy_behind();
+        let mut out = [7; 13];
+        let wrong = Reading::ListIgnored;
+        let answer = report_as(wrong, &base, at_minute(480), Some(&[0]), &mut out);
+        assert_eq!((answer, out[0]), (Answer::done(1), 2));
+        assert_eq!(refused_as(wrong, &base, 480, Some(&[]), 13), 22);
     }
 
     #[test]

@@ -112,6 +112,35 @@ pub fn policy(role: Role, weight: u8, inheritable: bool, context: Option<u8>) ->
     }
 }
 
+/// A policy of role 0 for permission 0, of type 0 and in every context, by its
+/// issue day, rank and weight.
+pub fn issued(issue_day: u16, rank: u8, weight: u8) -> Policy {
+    Policy {
+        rank,
+        issue_day,
+        ..policy(0, weight, false, None)
+    }
+}
+
+/// All lists of one to three different rules.
+pub const LISTS: [&[u8]; 15] = [
+    &[0],
+    &[1],
+    &[2],
+    &[0, 1],
+    &[0, 1, 2],
+    &[0, 2],
+    &[0, 2, 1],
+    &[1, 0],
+    &[1, 0, 2],
+    &[1, 2],
+    &[1, 2, 0],
+    &[2, 0],
+    &[2, 0, 1],
+    &[2, 1],
+    &[2, 1, 0],
+];
+
 pub fn condition(parameter: Parameter, comparison: Comparison, value: u16) -> ContextCondition {
     ContextCondition {
         parameter,
@@ -200,6 +229,22 @@ fn random_policy(draws: &mut Draws, roles: u8) -> Policy {
         inheritable,
         None,
     )
+}
+
+/// The same with many policies of equal role, of few days and ranks, and some in
+/// context 0, which never holds.
+pub fn random_rivals(draws: &mut Draws, most_users: usize) -> Base {
+    let mut base = random_base(draws, most_users);
+    let policies = 2 + draws.below(15);
+    let last_role = draws.byte(0, base.roles - 1);
+    let rival = |_| Policy {
+        rank: draws.byte(0, 2),
+        issue_day: draws.byte(0, 2).into(),
+        context: [None, None, Some(0)][draws.below(3)],
+        ..random_policy(draws, last_role + 1)
+    };
+    base.policies = (0..policies).map(rival).collect();
+    base
 }
 
 fn random_clause(draws: &mut Draws, roles: u8) -> GroupClause {

@@ -4,7 +4,7 @@
 use crate::acting::Acting;
 use crate::base::Base;
 use crate::context::Context;
-use crate::decision::decide_by;
+use crate::decision::decide_as;
 use crate::group::{entries, Entry, MOST_ENTRIES};
 use crate::reading::Reading;
 use crate::refusal::{number, refuse_if, Refusal};
@@ -18,11 +18,11 @@ const REFUSED: u8 = 255;
 /// Opens a sheet: whatever it held, it becomes the unsigned sheet for this
 /// permission, or for 255 if one of refusals 1 to 10 applies.
 pub fn sheet_open(base: &[u8], permission: u32, sheet: &mut Sheet) -> u8 {
-    sheet_open_by(Reading::Paper, base, permission, sheet)
+    sheet_open_as(Reading::Paper, base, permission, sheet)
 }
 
 /// The opening by this reading.
-pub fn sheet_open_by(reading: Reading, base: &[u8], permission: u32, sheet: &mut Sheet) -> u8 {
+pub fn sheet_open_as(reading: Reading, base: &[u8], permission: u32, sheet: &mut Sheet) -> u8 {
     let opened = Base::read(base).and_then(|base| {
         let permission = base.permission(permission);
         permission.ok_or(Refusal::NoPermission)
@@ -38,11 +38,11 @@ pub fn sheet_open_by(reading: Reading, base: &[u8], permission: u32, sheet: &mut
 /// Signs a sheet: the new entry stands behind those held. No byte changes if
 /// one of refusals 1 to 9, 13 to 15 and 20 applies.
 pub fn sheet_sign(base: &[u8], user: u32, role: u32, sheet: &mut Sheet) -> u8 {
-    sheet_sign_by(Reading::Paper, base, user, role, sheet)
+    sheet_sign_as(Reading::Paper, base, user, role, sheet)
 }
 
 /// The signing by this reading.
-pub fn sheet_sign_by(reading: Reading, base: &[u8], user: u32, role: u32, sheet: &mut Sheet) -> u8 {
+pub fn sheet_sign_as(reading: Reading, base: &[u8], user: u32, role: u32, sheet: &mut Sheet) -> u8 {
     let entry = Base::read(base).and_then(|base| new_entry(reading, &base, user, role, sheet));
     if let Ok(entry) = entry {
         let count = held(reading, sheet).len() / 2;
@@ -54,12 +54,13 @@ pub fn sheet_sign_by(reading: Reading, base: &[u8], user: u32, role: u32, sheet:
 
 /// The decision for a sheet's permission and the entries that it holds.
 pub fn sheet_ask(base: &[u8], at: Context, sheet: &Sheet) -> u8 {
-    sheet_ask_by(Reading::Paper, base, at, sheet)
+    sheet_ask_as(Reading::Paper, base, at, sheet)
 }
 
 /// The answer by this reading.
-pub fn sheet_ask_by(reading: Reading, base: &[u8], at: Context, sheet: &Sheet) -> u8 {
-    decide_by(reading, base, sheet[0].into(), at, held(reading, sheet))
+pub fn sheet_ask_as(reading: Reading, base: &[u8], at: Context, sheet: &Sheet) -> u8 {
+    let group = held(reading, sheet);
+    decide_as(reading, base, sheet[0].into(), at, None, group)
 }
 
 /// The bytes of the entries that a sheet holds: as many as it claims, and of
@@ -134,7 +135,7 @@ mod tests {
     }
 
     fn signed_by(reading: Reading, user: u32, role: u32, mut sheet: Sheet) -> (u8, Sheet) {
-        let answer = sheet_sign_by(reading, &SMALL_SHOP, user, role, &mut sheet);
+        let answer = sheet_sign_as(reading, &SMALL_SHOP, user, role, &mut sheet);
         (answer, sheet)
     }
 
@@ -342,7 +343,7 @@ mod tests {
     fn a_wrong_reading_keeps_the_permission_asked_for() {
         let mut sheet = NOISE;
         let wrong = Reading::PermissionKept;
-        assert_eq!(sheet_open_by(wrong, &SMALL_SHOP, 7, &mut sheet), 10);
+        assert_eq!(sheet_open_as(wrong, &SMALL_SHOP, 7, &mut sheet), 10);
         assert_eq!((sheet[0], sheet[1]), (7, 0));
     }
 
@@ -367,7 +368,7 @@ mod tests {
         let base = eight_users([15; 8]);
         let sign = |reading, role| {
             let mut sheet = [0, 1, 3, 0, 0, 0, 0, 0, 0, 0, 0, 0, 0, 0];
-            sheet_sign_by(reading, &base, 3, role, &mut sheet)
+            sheet_sign_as(reading, &base, 3, role, &mut sheet)
         };
         assert_eq!([0, 1].map(|role| sign(Reading::Paper, role)), [14, 14]);
         assert_eq!([0, 1].map(|role| sign(Reading::AnotherRole, role)), [14, 0]);
@@ -376,7 +377,7 @@ mod tests {
     #[test]
     fn a_wrong_reading_takes_a_claim_over_six_for_none() {
         let wrong = Reading::OverSixAsNone;
-        let ask = |count| sheet_ask_by(wrong, &SMALL_SHOP, at_minute(600), &claiming(count));
+        let ask = |count| sheet_ask_as(wrong, &SMALL_SHOP, at_minute(600), &claiming(count));
         assert_eq!([5, 6, 7, 255].map(ask), [13, 13, 12, 12]);
         let (answer, sheet) = signed_by(wrong, 1, 1, claiming(7));
         assert_eq!((answer, &sheet[..4]), (0, &[0, 1, 1, 1][..]));

@@ -50,7 +50,7 @@ mod tests {
     use super::*;
     use crate::reading::Reading;
     use crate::samples::{eight_ranked_users, eight_users, small_shop, Draws};
-    use crate::sheet::sheet_sign_by;
+    use crate::sheet::sheet_sign_as;
 
     fn signing(base: Option<&Base>, user: u32, role: u32) -> Signing<'_> {
         Signing { base, user, role }
@@ -146,7 +146,7 @@ mod tests {
                 let base = draws.below(3);
                 let user = draws.below(9) as u32 + [0, 0, 0, 256][draws.below(4)];
                 let role = draws.below(4) as u32;
-                sheet_sign_by(reading, &bases[base], user, role, &mut sheet);
+                sheet_sign_as(reading, &bases[base], user, role, &mut sheet);
                 list.push(signing(read[base].as_ref(), user, role));
                 let accepted = accepted(&list);
                 let holds_them = sheet == sheet_holding(permission, &accepted);

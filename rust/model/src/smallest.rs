@@ -8,15 +8,16 @@ use crate::decision::Question;
 use crate::group::{Attributes, Entry, MOST_ENTRIES};
 use crate::reading::Reading;
 use crate::refusal::Refusal;
+use crate::resolution::Resolution;
 
-/// The smallest number of entries of a group that is granted, or 0 if the
-/// decision grants none, by trying every group.
+/// The smallest number of entries of a group that is granted by a resolution
+/// list or without one, or 0 if the decision grants none, by trying every group.
 ///
 /// # Panics
 ///
 /// If the base has more than six users: there would be too many groups.
-pub fn smallest_by_trial(base: &[u8], at: Context, permission: u32) -> u8 {
-    smallest(base, at, permission, |question| {
+pub fn smallest_by_trial(base: &[u8], at: Context, list: Option<&[u8]>, permission: u32) -> u8 {
+    smallest(base, at, list, permission, |question| {
         assert!(question.base.users.len() <= 6, "at most six users");
         let fits = |&size: &usize| try_groups(question, &mut Vec::new(), 0, size);
         (1..=MOST_ENTRIES).find(fits).unwrap_or(0)
@@ -24,16 +25,23 @@ pub fn smallest_by_trial(base: &[u8], at: Context, permission: u32) -> u8 {
 }
 
 /// The same by what groups can reach, for a base of any size.
-pub fn smallest_by_reach(base: &[u8], at: Context, permission: u32) -> u8 {
-    smallest(base, at, permission, |question| {
+pub fn smallest_by_reach(base: &[u8], at: Context, list: Option<&[u8]>, permission: u32) -> u8 {
+    smallest(base, at, list, permission, |question| {
         smallest_group(question).map_or(0, |group| group.len())
     })
 }
 
-/// The number, or 0 if refusals 1 to 11 leave no question to ask.
-fn smallest(base: &[u8], at: Context, permission: u32, find: impl Fn(&Question) -> usize) -> u8 {
+/// The number, or 0 if refusals 1 to 11 and 22 leave no question to ask.
+fn smallest(
+    base: &[u8],
+    at: Context,
+    list: Option<&[u8]>,
+    permission: u32,
+    find: impl Fn(&Question) -> usize,
+) -> u8 {
     let number = Base::read(base).and_then(|base| -> Result<usize, Refusal> {
-        let question = Question::new(&base, permission, at, Reading::Paper)?;
+        let resolution = Resolution::lent(Reading::Paper, list)?;
+        let question = Question::by(resolution, &base, permission, at, Reading::Paper)?;
         Ok(find(&question))
     });
     number.unwrap_or(0) as u8
@@ -151,16 +159,16 @@ mod tests {
         group.map_or(0, |group| group.len())
     }
 
-    fn by_trial(base: &Base) -> usize {
-        let question = question(base, Reading::Paper);
-        let fits = |&size: &usize| try_groups(&question, &mut Vec::new(), 0, size);
+    fn trial(question: &Question) -> usize {
+        let fits = |&size: &usize| try_groups(question, &mut Vec::new(), 0, size);
         (1..=6).find(fits).unwrap_or(0)
     }
 
     /// The smallest number, which both ways give.
     fn smallest_of(base: &Base) -> usize {
-        let by_reach = length(smallest_group(&question(base, Reading::Paper)));
-        assert_eq!(by_reach, by_trial(base));
+        let question = question(base, Reading::Paper);
+        let by_reach = length(smallest_group(&question));
+        assert_eq!(by_reach, trial(&question));
         by_reach
     }
 
@@ -178,17 +186,25 @@ mod tests {
     #[test]
     fn the_small_shop_needs_two() {
         for minute in [480, 600] {
-            assert_eq!(smallest_by_reach(&SMALL_SHOP, at_minute(minute), 0), 2);
-            assert_eq!(smallest_by_trial(&SMALL_SHOP, at_minute(minute), 0), 2);
+            assert_eq!(
+                smallest_by_reach(&SMALL_SHOP, at_minute(minute), None, 0),
+                2
+            );
+            assert_eq!(
+                smallest_by_trial(&SMALL_SHOP, at_minute(minute), None, 0),
+                2
+            );
         }
     }
 
     #[test]
     fn where_the_decision_refuses_all_the_number_is_0() {
         for find in [smallest_by_reach, smallest_by_trial] {
-            assert_eq!(find(&SMALL_SHOP[1..], at_minute(600), 0), 0);
-            assert_eq!(find(&SMALL_SHOP, at_minute(600), 1), 0);
-            assert_eq!(find(&SMALL_SHOP, at_minute(1440), 0), 0);
+            assert_eq!(find(&SMALL_SHOP[1..], at_minute(600), None, 0), 0);
+            assert_eq!(find(&SMALL_SHOP, at_minute(600), None, 1), 0);
+            assert_eq!(find(&SMALL_SHOP, at_minute(1440), None, 0), 0);
+            assert_eq!(find(&SMALL_SHOP, at_minute(600), Some(&[]), 0), 0);
+            assert_eq!(find(&SMALL_SHOP, at_minute(600), Some(&[0]), 0), 2);
         }
     }
 
@@ -253,6 +269,27 @@ mod tests {
             seen[smallest_of(&random_base(&mut draws, 6))] += 1;
         }
         assert!(seen.iter().all(|&times| times > 0), "{seen:?}");
+    }
+
+    #[test]
+    fn both_ways_agree_by_every_list() {
+        let mut draws = Draws::new(7);
+        let (mut seen, mut others) = ([0; 7], 0);
+        for _ in 0..600 {
+            let base = random_rivals(&mut draws, 4);
+            let without = smallest_of(&base);
+            for list in LISTS {
+                let resolution = Resolution::read(list).expect("the list is legal");
+                let question = Question::by(resolution, &base, 0, at_minute(600), Reading::Paper);
+                let question = question.expect("the question is allowed");
+                let smallest = length(smallest_group(&question));
+                assert_eq!(smallest, trial(&question));
+                seen[smallest] += 1;
+                others += usize::from(smallest != without);
+            }
+        }
+        assert!(seen[..5].iter().all(|&times| times > 0), "{seen:?}");
+        assert!(others >= 100, "{others}");
     }
 
     /// Asks about every group of so many entries: users and roles up to one

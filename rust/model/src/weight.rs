@@ -1,26 +1,38 @@
 //! The weight of a role for a permission.
 
 use crate::base::Base;
+use crate::choice::{Choice, Choices};
 use crate::context::Context;
 use crate::group::pairs;
 use crate::reading::Reading;
-use crate::records::Policy;
+use crate::resolution::{Numbered, Resolution};
 use crate::roles::Role;
 use crate::seniority::{chains, Seniority};
 
-/// The situation in which policies are active or not: a base and a context.
+/// The situation in which policies are active or not and one of them is chosen:
+/// a base, a context and a resolution list, or none.
 pub struct Situation<'a> {
     base: &'a Base,
-    at: Context,
+    choices: Choices<'a>,
     reading: Reading,
     seniority: Seniority,
 }
 
 impl<'a> Situation<'a> {
+    /// Without a list.
     pub fn new(base: &'a Base, at: Context, reading: Reading) -> Situation<'a> {
+        Situation::by(Resolution::none(), base, at, reading)
+    }
+
+    pub fn by(
+        resolution: Resolution,
+        base: &'a Base,
+        at: Context,
+        reading: Reading,
+    ) -> Situation<'a> {
         Situation {
             base,
-            at,
+            choices: Choices::by(resolution, base, at, reading),
             reading,
             seniority: Seniority::of(base),
         }
@@ -28,12 +40,12 @@ impl<'a> Situation<'a> {
 
     /// The weight of the chosen policy of the role, or 0.
     pub fn own(&self, role: Role, permission: u8) -> u32 {
-        weight_of(self.chosen(role, permission, |_| true))
+        weight_of(self.choices.chosen(Choice::Own, role, permission))
     }
 
     /// The same over policies of type 1.
     pub fn inh(&self, role: Role, permission: u8) -> u32 {
-        weight_of(self.chosen(role, permission, |policy| policy.inheritable))
+        weight_of(self.choices.chosen(Choice::Inh, role, permission))
     }
 
     /// own of the role and inh of each role that it is senior to.
@@ -59,26 +71,10 @@ impl<'a> Situation<'a> {
             _ => self.seniority.is_senior(role, other).into(),
         }
     }
-
-    /// Of the active policies of a role for a permission that pass the filter,
-    /// the one that counts: the first in table order.
-    fn chosen(&self, role: Role, permission: u8, filter: fn(&Policy) -> bool) -> Option<&Policy> {
-        let policies = self.base.policies.iter();
-        policies
-            .filter(|policy| policy.role == role && policy.permission == permission)
-            .filter(|policy| filter(policy))
-            .find(|policy| self.is_active(policy))
-    }
-
-    /// A policy is active if its context holds.
-    fn is_active(&self, policy: &Policy) -> bool {
-        self.base
-            .context_holds(policy.context, self.at, self.reading)
-    }
 }
 
-fn weight_of(policy: Option<&Policy>) -> u32 {
-    policy.map_or(0, |policy| policy.weight.into())
+fn weight_of(policy: Option<Numbered>) -> u32 {
+    policy.map_or(0, |(_, policy)| policy.weight.into())
 }
 
 #[cfg(test)]

@@ -60,6 +60,26 @@ pub fn decide(base: &[u8], permission: u32, at: Context, group: &[u8]) -> u32 {
     library::decide(base, permission, at, group)
 }
 
+/// The same by a resolution list, whose bytes are rules: 0 if the group is
+/// granted the permission, or the first of refusals 1 to 9, 22, 10, 11 and 12 to
+/// 17 that applies. An empty list is refused by 22; without a list it is
+/// [`decide`].
+///
+/// ```
+/// use release::example::SMALL_SHOP;
+/// use release::{answers, Context};
+///
+/// let at = Context::new(600, 0, 0);
+/// let by = |list: &[u8]| answers::decide_by(&SMALL_SHOP, 0, at, list, &[0, 0, 2, 2]);
+/// assert_eq!(by(&[0, 2]), 0);
+/// assert_eq!(by(&[]), 22);
+/// assert_eq!(answers::decide_by(&SMALL_SHOP, 256, at, &[0, 0], &[]), 22);
+/// assert_eq!(answers::decide_by(&SMALL_SHOP, 256, at, &[0], &[]), 10);
+/// ```
+pub fn decide_by(base: &[u8], permission: u32, at: Context, list: &[u8], group: &[u8]) -> u32 {
+    library::decide_by(base, permission, at, list, group)
+}
+
 /// Writes 13 bytes for each permission into the buffer's first bytes: the
 /// number of a smallest group's entries, the group and 255 in every byte left.
 /// The answer is 0 and the number of permissions that have a group, or the
@@ -83,6 +103,28 @@ pub fn report(base: &[u8], at: Context, out: &mut [u8]) -> Answer {
     Answer::from_number(library::report(base, at, out))
 }
 
+/// The same by a resolution list, for groups that [`decide_by`] grants with that
+/// list. The answer is 0 and the number of permissions that have a group, or the
+/// first of refusals 1 to 9, 22, 11 and 19 that applies and 0. No refusal writes.
+///
+/// ```
+/// use release::answers::{self, Answer};
+/// use release::example::SMALL_SHOP;
+/// use release::Context;
+///
+/// let at = Context::new(480, 0, 0);
+/// let mut out = [7; 14];
+/// let done = Answer { refusal: 0, count: 1 };
+/// assert_eq!(answers::report_by(&SMALL_SHOP, at, &[1], &mut out), done);
+/// assert_eq!(out, [2, 0, 0, 1, 1, 255, 255, 255, 255, 255, 255, 255, 255, 7]);
+///
+/// let refused = Answer { refusal: 22, count: 0 };
+/// assert_eq!(answers::report_by(&SMALL_SHOP, at, &[1, 1], &mut out), refused);
+/// ```
+pub fn report_by(base: &[u8], at: Context, list: &[u8], out: &mut [u8]) -> Answer {
+    Answer::from_number(library::report_by(base, at, list, out))
+}
+
 /// Writes the list of conflicts, 3 bytes each, into the buffer's first bytes.
 /// The answer is 0 and their number, 18 and the number that would be written,
 /// or the first of refusals 1 to 9 that applies and 0. No refusal writes.
@@ -104,9 +146,9 @@ pub fn conflicts(base: &[u8], out: &mut [u8]) -> Answer {
     Answer::from_number(library::conflicts(base, out))
 }
 
-/// How far a new weight of one policy can shift a group's sum of weights: 0 and
-/// the bound, or the first of refusals 1 to 9, 12 to 15 and 21 that applies and
-/// 0.
+/// How far a new weight of one policy can shift a group's sum of weights, by any
+/// resolution list and without one: 0 and the bound, or the first of refusals 1
+/// to 9, 12 to 15 and 21 that applies and 0.
 ///
 /// ```
 /// use release::answers::{self, Answer};

@@ -5,9 +5,10 @@ use crate::decision::Entry;
 use crate::refusal::{result_of, Refusal};
 
 /// How far a new weight of one policy can shift the group's sum of weights: for
-/// every permission and context, the sum by the base with that weight in place
-/// of the old one differs from the sum by this base by at most the result. Or
-/// the first of refusals 1 to 9, 12 to 15 and 21 that applies.
+/// every permission and context, by every [`Resolution`](crate::Resolution) and
+/// without one, the sum by the base with that weight in place of the old one
+/// differs from the sum by this base by at most the result. Or the first of
+/// refusals 1 to 9, 12 to 15 and 21 that applies.
 ///
 /// The policy is its number in A, from 0 on, and the new weight is 1 to 5. The
 /// numbers aren't cut: policy 256 and weight 256 get

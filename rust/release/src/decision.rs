@@ -3,6 +3,7 @@
 use crate::answers;
 use crate::context::Context;
 use crate::refusal::{result_of, Refusal};
+use crate::resolution::Resolution;
 
 /// A user in a group, and the role that the user acts in.
 #[derive(Clone, Copy, Debug, PartialEq, Eq, Hash)]
@@ -97,10 +98,74 @@ pub fn decide_bytes(
     result_of(answers::decide(base, permission, context, group))
 }
 
+/// The same by a resolution list: where several policies of a role for the
+/// permission are active, the list chooses which one counts, in place of table
+/// order. Of those of type 1 it chooses which one seniors inherit.
+///
+/// `Ok` if the group is granted, else the first of refusals 1 to 17 that
+/// applies.
+///
+/// ```
+/// use release::example::SMALL_SHOP;
+/// use release::{decide, decide_by, Context, Entry, Refusal, Resolution, Rule};
+///
+/// // The buyer's policy made a second one of the manager: of weight 1, and from
+/// // a later day.
+/// let mut shop = SMALL_SHOP;
+/// (shop[62], shop[68]) = (0, 1);
+/// let by_day = Context::new(600, 0, 0);
+/// let manager_and_clerk = [Entry::new(0, 0), Entry::new(2, 2)];
+/// assert_eq!(decide(&shop, 0, by_day, &manager_and_clerk), Ok(()));
+///
+/// let newest = Resolution::by(Rule::LaterDay);
+/// let refused = decide_by(&shop, 0, by_day, newest, &manager_and_clerk);
+/// assert_eq!(refused, Err(Refusal::Condition));
+///
+/// let highest = Resolution::by(Rule::LargerRank);
+/// assert_eq!(decide_by(&shop, 0, by_day, highest, &manager_and_clerk), Ok(()));
+/// ```
+pub fn decide_by(
+    base: &[u8],
+    permission: u32,
+    context: Context,
+    resolution: Resolution,
+    group: &[Entry],
+) -> Result<(), Refusal> {
+    let bytes: Vec<u8> = group.iter().flat_map(|entry| entry.bytes()).collect();
+    decide_by_bytes(base, permission, context, resolution.bytes(), &bytes)
+}
+
+/// The same for a list and a group as bytes. They may be any bytes of any
+/// length: a list that is empty, longer than 3, repeats a rule or holds another
+/// byte gets [`Refusal::Resolution`], after refusals 1 to 9 and before all
+/// others.
+///
+/// ```
+/// use release::example::SMALL_SHOP;
+/// use release::{decide_by_bytes, Context, Refusal};
+///
+/// let by_day = Context::new(600, 0, 0);
+/// let by = |list: &[u8]| decide_by_bytes(&SMALL_SHOP, 0, by_day, list, &[0, 0, 2, 2]);
+/// assert_eq!(by(&[2, 0, 1]), Ok(()));
+/// for no_list in [&[][..], &[3], &[0, 0], &[0, 1, 2, 0]] {
+///     assert_eq!(by(no_list), Err(Refusal::Resolution));
+/// }
+/// ```
+pub fn decide_by_bytes(
+    base: &[u8],
+    permission: u32,
+    context: Context,
+    list: &[u8],
+    group: &[u8],
+) -> Result<(), Refusal> {
+    result_of(answers::decide_by(base, permission, context, list, group))
+}
+
 #[cfg(test)]
 mod tests {
     use super::*;
     use crate::example::SMALL_SHOP;
+    use crate::resolution::Rule;
 
     /// The answer for as many entries, all of users that aren't there.
     fn answer(entries: usize) -> Result<(), Refusal> {
@@ -120,6 +185,45 @@ mod tests {
         assert_eq!(decided(&[[0, 1], [1, 1]]), Err(Refusal::Condition));
         let as_manager = decided(&[[0, 1], [1, 0], [2, 2]]);
         assert_eq!(as_manager, Err(Refusal::Membership));
+    }
+
+    /// The clerks' policy made a second one of the manager, by day: of the later
+    /// day, the smaller rank and the smaller weight.
+    fn two_of_the_manager() -> [u8; 114] {
+        let mut shop = SMALL_SHOP;
+        (shop[59], shop[70], shop[76]) = (1, 0, 1);
+        shop
+    }
+
+    /// Without the second one the manager weighs 4 and the buyer 1, which suffice;
+    /// with it they have 3.
+    #[test]
+    fn a_list_chooses_the_policy_that_counts() {
+        let decided = |minute, rule| {
+            let context = Context::new(minute, 0, 0);
+            let group = [Entry::new(0, 0), Entry::new(1, 1)];
+            let list = Resolution::by(rule);
+            decide_by(&two_of_the_manager(), 0, context, list, &group)
+        };
+        assert_eq!(decided(600, Rule::LaterDay), Err(Refusal::Condition));
+        assert_eq!(decided(600, Rule::LargerRank), Ok(()));
+        assert_eq!(decided(600, Rule::SmallerWeight), Err(Refusal::Condition));
+        for rule in Rule::ALL {
+            assert_eq!(decided(480, rule), Ok(()));
+        }
+    }
+
+    #[test]
+    fn a_list_is_refused_behind_the_base_and_before_all_else() {
+        let late = Context::new(1440, 0, 0);
+        for list in [&[][..], &[1, 1], &[255], &[2, 1, 0, 2]] {
+            let no_base = decide_by_bytes(&SMALL_SHOP[1..], 1, late, list, &[]);
+            assert_eq!(no_base, Err(Refusal::Trailer));
+            let refused = decide_by_bytes(&SMALL_SHOP, 1, late, list, &[]);
+            assert_eq!(refused, Err(Refusal::Resolution));
+        }
+        let refused = decide_by_bytes(&SMALL_SHOP, 1, late, &[2, 1, 0], &[]);
+        assert_eq!(refused, Err(Refusal::NoPermission));
     }
 
     #[test]

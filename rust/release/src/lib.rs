@@ -12,6 +12,7 @@
 //! | [`check`] | is this a base? |
 //! | [`decide`], [`decide_bytes`] | may this group release this permission? |
 //! | [`report`], [`report_into`] | which smallest group can release each permission? |
+//! | [`decide_by`], [`decide_by_bytes`], [`report_by`], [`report_by_into`] | the same where a [`Resolution`] says which of several policies counts |
 //! | [`conflicts`], [`conflicts_into`], [`conflict_count`] | which records of the base conflict? |
 //! | [`bound`], [`bound_bytes`] | how far can a policy's new weight shift this group's sum of weights? |
 //! | [`Sheet::open`], [`Sheet::sign`], [`Sheet::ask`] | may those who have signed so far release this permission? |
@@ -32,8 +33,8 @@
 //! ```
 //!
 //! Nothing is kept between calls, so any number of threads may call at once.
-//! A report takes about 30,000 bytes of stack, every other call less than
-//! 4,096: a thread with 64 KiB suffices.
+//! A report, by a list or without, takes about 30,000 bytes of stack, every other
+//! call less than 4,096: a thread with 64 KiB suffices.
 //!
 //! The static library is built by `rt staticlib exports` before this crate.
 
@@ -51,16 +52,19 @@ pub mod example;
 mod library;
 mod refusal;
 mod report;
+mod resolution;
 mod sheet;
 
 pub use bound::{bound, bound_bytes};
 pub use conflicts::{conflict_count, conflicts, conflicts_into, Conflict, CONFLICT_BYTES};
 pub use context::Context;
-pub use decision::{decide, decide_bytes, Entry};
+pub use decision::{decide, decide_by, decide_by_bytes, decide_bytes, Entry};
 pub use refusal::Refusal;
 pub use report::{
-    permissions, report, report_into, Permission, Report, LONGEST_REPORT, PERMISSION_BYTES,
+    permissions, report, report_by, report_by_into, report_into, Permission, Report,
+    LONGEST_REPORT, PERMISSION_BYTES,
 };
+pub use resolution::{Resolution, Rule, LONGEST_RESOLUTION};
 pub use sheet::{Sheet, SHEET_BYTES};
 
 /// The most bytes that a base can have.

@@ -19,12 +19,37 @@ mod foreign {
             group_len: usize,
         ) -> u32;
 
+        pub fn release_decide_by(
+            base: *const u8,
+            base_len: usize,
+            permission: u32,
+            minute: u32,
+            day: u32,
+            zone: u32,
+            list: *const u8,
+            list_len: usize,
+            group: *const u8,
+            group_len: usize,
+        ) -> u32;
+
         pub fn release_report(
             base: *const u8,
             base_len: usize,
             minute: u32,
             day: u32,
             zone: u32,
+            out: *mut u8,
+            out_len: usize,
+        ) -> u64;
+
+        pub fn release_report_by(
+            base: *const u8,
+            base_len: usize,
+            minute: u32,
+            day: u32,
+            zone: u32,
+            list: *const u8,
+            list_len: usize,
             out: *mut u8,
             out_len: usize,
         ) -> u64;
@@ -94,6 +119,25 @@ pub fn decide(base: &[u8], permission: u32, at: Context, group: &[u8]) -> u32 {
     }
 }
 
+pub fn decide_by(base: &[u8], permission: u32, at: Context, list: &[u8], group: &[u8]) -> u32 {
+    // SAFETY: the pointers and lengths are those of three slices, which the
+    // library only reads, and only during the call.
+    unsafe {
+        foreign::release_decide_by(
+            base.as_ptr(),
+            base.len(),
+            permission,
+            at.minute,
+            at.day,
+            at.zone,
+            list.as_ptr(),
+            list.len(),
+            group.as_ptr(),
+            group.len(),
+        )
+    }
+}
+
 /// The answer as refusal + 256 * count.
 pub fn report(base: &[u8], at: Context, out: &mut [u8]) -> u64 {
     // SAFETY: the pointers and lengths are those of two slices that don't
@@ -106,6 +150,26 @@ pub fn report(base: &[u8], at: Context, out: &mut [u8]) -> u64 {
             at.minute,
             at.day,
             at.zone,
+            out.as_mut_ptr(),
+            out.len(),
+        )
+    }
+}
+
+/// The answer as refusal + 256 * count.
+pub fn report_by(base: &[u8], at: Context, list: &[u8], out: &mut [u8]) -> u64 {
+    // SAFETY: the pointers and lengths are those of three slices, of which the
+    // third overlaps neither other one. The library only reads the first two and
+    // writes the third within its length, and only during the call.
+    unsafe {
+        foreign::release_report_by(
+            base.as_ptr(),
+            base.len(),
+            at.minute,
+            at.day,
+            at.zone,
+            list.as_ptr(),
+            list.len(),
             out.as_mut_ptr(),
             out.len(),
         )

@@ -3,9 +3,11 @@
 use std::error::Error;
 use std::fmt;
 
-/// Why a call is refused, in checking order. The tables of a base are H
-/// (hierarchy), U (users), P (permissions), K (group clauses), C (context
-/// clauses), A (policies) and X (exclusions); R is the number of roles.
+/// Why a call is refused, by number. Each call's documentation says which it can
+/// give; they are checked in rising order, but for 22, which comes after 9. The
+/// tables of a base are H (hierarchy), U (users), P (permissions), K (group
+/// clauses), C (context clauses), A (policies) and X (exclusions); R is the
+/// number of roles.
 #[derive(Clone, Copy, Debug, PartialEq, Eq, Hash)]
 #[non_exhaustive]
 pub enum Refusal {
@@ -56,11 +58,14 @@ pub enum Refusal {
     SheetFull = 20,
     /// 21: the policy isn't in A, or its new weight isn't 1 to 5.
     NoPolicyOrWeight = 21,
+    /// 22: the resolution list is empty, longer than 3 bytes, repeats a rule or
+    /// holds another byte. It comes after 9 and before 10.
+    Resolution = 22,
 }
 
 impl Refusal {
-    /// Every refusal, in checking order.
-    pub const ALL: [Refusal; 21] = [
+    /// Every refusal, by number.
+    pub const ALL: [Refusal; 22] = [
         Refusal::Length,
         Refusal::Letters,
         Refusal::Trailer,
@@ -82,9 +87,10 @@ impl Refusal {
         Refusal::ReportBuffer,
         Refusal::SheetFull,
         Refusal::NoPolicyOrWeight,
+        Refusal::Resolution,
     ];
 
-    /// The refusal's number, 1 to 21.
+    /// The refusal's number, 1 to 22.
     ///
     /// ```
     /// assert_eq!(release::Refusal::UserTwice.number(), 14);
@@ -157,6 +163,10 @@ impl Refusal {
             Refusal::NoPolicyOrWeight => {
                 "the base has no policy of that number, or the new weight isn't 1 to 5"
             }
+            Refusal::Resolution => {
+                "the resolution list is empty, longer than 3 bytes, repeats a rule or \
+                 holds another byte"
+            }
         }
     }
 }
@@ -179,7 +189,7 @@ impl Error for Refusal {}
 pub(crate) fn result_of(answer: u32) -> Result<(), Refusal> {
     match answer {
         0 => Ok(()),
-        _ => Err(Refusal::from_number(answer).expect("the library answers 0 to 21")),
+        _ => Err(Refusal::from_number(answer).expect("the library answers 0 to 22")),
     }
 }
 
@@ -195,7 +205,7 @@ mod tests {
             assert_eq!(result_of(number), Err(refusal));
         }
         assert_eq!(result_of(0), Ok(()));
-        assert_eq!(Refusal::from_number(22), None);
+        assert_eq!(Refusal::from_number(23), None);
     }
 
     #[test]

@@ -4,6 +4,7 @@ use crate::answers;
 use crate::context::Context;
 use crate::decision::{first_entries, Entry};
 use crate::refusal::Refusal;
+use crate::resolution::Resolution;
 
 /// Bytes of a report for each permission.
 pub const PERMISSION_BYTES: usize = 13;
@@ -176,6 +177,58 @@ pub fn report_into(base: &[u8], context: Context, buffer: &mut [u8]) -> Result<u
     answers::report(base, context, buffer).counted()
 }
 
+/// The report by a resolution list: for groups that
+/// [`decide_by`](crate::decide_by) grants with that list. Or the first of
+/// refusals 1 to 9 and 11 that applies.
+///
+/// ```
+/// use release::example::SMALL_SHOP;
+/// use release::{report, report_by, Context, Refusal, Resolution, Rule};
+///
+/// // The buyer's policy made a second one of the manager: of weight 1, and from
+/// // a later day.
+/// let mut shop = SMALL_SHOP;
+/// (shop[62], shop[68]) = (0, 1);
+/// let by_day = Context::new(600, 0, 0);
+/// assert_eq!(report(&shop, by_day)?.count(), 1);
+///
+/// let newest = Resolution::by(Rule::LaterDay);
+/// let by_newest = report_by(&shop, by_day, newest)?;
+/// let approvers: Vec<usize> = by_newest.permissions().map(|p| p.approvers()).collect();
+/// assert_eq!(approvers, [4]);
+/// # Ok::<(), Refusal>(())
+/// ```
+pub fn report_by(base: &[u8], context: Context, resolution: Resolution) -> Result<Report, Refusal> {
+    let mut bytes = [UNWRITTEN; LONGEST_REPORT];
+    let count = report_by_into(base, context, resolution.bytes(), &mut bytes)?;
+    Ok(Report { count, bytes })
+}
+
+/// Writes the report by a list of any bytes, as [`report_into`] does without
+/// one. The result is how many permissions some group can release, or the first
+/// of refusals 1 to 9, 22, 11 and 19 that applies. No refusal writes.
+///
+/// ```
+/// use release::example::SMALL_SHOP;
+/// use release::{report_by_into, Context, Refusal};
+///
+/// let early = Context::new(480, 0, 0);
+/// let mut buffer = [7; 14];
+/// assert_eq!(report_by_into(&SMALL_SHOP, early, &[0, 1], &mut buffer), Ok(1));
+/// assert_eq!(buffer, [2, 0, 0, 1, 1, 255, 255, 255, 255, 255, 255, 255, 255, 7]);
+///
+/// let no_list = report_by_into(&SMALL_SHOP, early, &[], &mut buffer);
+/// assert_eq!(no_list, Err(Refusal::Resolution));
+/// ```
+pub fn report_by_into(
+    base: &[u8],
+    context: Context,
+    list: &[u8],
+    buffer: &mut [u8],
+) -> Result<usize, Refusal> {
+    answers::report_by(base, context, list, buffer).counted()
+}
+
 /// The permissions in a report's bytes, 13 each, up to the first 13 bytes that
 /// no report has written: those that start with a number above 6. So the buffer
 /// has to hold 255 before the report: where nothing was written, a lower byte
@@ -202,6 +255,7 @@ pub fn permissions(bytes: &[u8]) -> impl Iterator<Item = Permission> + '_ {
 mod tests {
     use super::*;
     use crate::example::SMALL_SHOP;
+    use crate::resolution::Rule;
 
     const EARLY: Context = Context {
         minute: 480,
@@ -270,6 +324,35 @@ mod tests {
         let refused = report_into(&SMALL_SHOP, late, &mut buffer);
         assert_eq!(refused, Err(Refusal::Context));
         assert_eq!(buffer, [7; LONGEST_REPORT]);
+    }
+
+    #[test]
+    fn a_refused_list_writes_nothing() {
+        let late = Context::new(0, 7, 0);
+        let mut buffer = [7; LONGEST_REPORT];
+        for list in [&[][..], &[1, 1], &[255], &[2, 1, 0, 2]] {
+            for (context, length) in [(EARLY, LONGEST_REPORT), (late, 0)] {
+                let lent = &mut buffer[..length];
+                let refused = report_by_into(&SMALL_SHOP, context, list, lent);
+                assert_eq!(refused, Err(Refusal::Resolution));
+                let no_base = report_by_into(&SMALL_SHOP[1..], context, list, lent);
+                assert_eq!(no_base, Err(Refusal::Trailer));
+            }
+        }
+        let refused = report_by_into(&SMALL_SHOP, late, &[2, 1, 0], &mut []);
+        assert_eq!(refused, Err(Refusal::Context));
+        let refused = report_by_into(&SMALL_SHOP, EARLY, &[2, 1, 0], &mut buffer[..12]);
+        assert_eq!(refused, Err(Refusal::ReportBuffer));
+        assert_eq!(buffer, [7; LONGEST_REPORT]);
+    }
+
+    /// Each role of the small shop has one policy at most.
+    #[test]
+    fn without_rivals_a_list_changes_nothing() {
+        for rule in Rule::ALL {
+            let by_list = report_by(&SMALL_SHOP, EARLY, Resolution::by(rule));
+            assert_eq!(by_list, report(&SMALL_SHOP, EARLY));
+        }
     }
 
     #[test]

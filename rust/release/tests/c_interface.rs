@@ -91,6 +91,20 @@ fn the_example_prints_a_morning() {
 }
 
 #[test]
+fn the_example_prints_who_can_release_by_lists() {
+    let example = C.compile("examples/overrides.c", "overrides");
+    let expected = "\
+        policies 0 and 3 conflict\n\
+        table order: 0/0 1/1\n\
+        later day: nobody\n\
+        larger rank: 0/0 1/1\n\
+        smaller weight: nobody\n\
+        larger rank, later day: 0/0 1/1\n\
+        no rule: refused 22\n";
+    assert_eq!(printed(&example, &[]), expected);
+}
+
+#[test]
 fn every_call_from_c() {
     let calls = C.compile("rust/release/tests/calls.c", "calls_c");
     assert_eq!(printed(&calls, &SMALL_SHOP), "ok\n");

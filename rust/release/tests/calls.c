@@ -1,8 +1,8 @@
 /*
- * Calls each function through the header, in C and in C++: every refusal by
- * its name, NULL with length 0, the buffers, the sheets and the two parts of an
- * answer. The small shop comes in on standard input. Prints what differs, or
- * `ok`.
+ * Calls each function through the header, in C and in C++: every refusal and
+ * every rule by its name, NULL with length 0, the buffers, the sheets and the two
+ * parts of an answer. The small shop comes in on standard input. Prints what
+ * differs, or `ok`.
  */
 #include <stdio.h>
 #include <string.h>
@@ -92,6 +92,60 @@ static void decisions(void) {
     expect("the base's letters as a group", 13, decide(600, shop + SHOP - 4, 4));
 }
 
+/* The shop with the clerk's policy made a second one of the manager, by day: of
+   the later day, the smaller rank and the smaller weight. */
+static void two_of_the_manager(uint8_t *base) {
+    memcpy(base, shop, SHOP);
+    base[59] = 1;
+    base[70] = 0;
+    base[76] = 1;
+}
+
+/* By the list, the answer for manager and buyer. */
+static uint32_t decide_by(uint32_t minute, const uint8_t *list, size_t length) {
+    const uint8_t two[] = {0, 0, 1, 1};
+    uint8_t base[SHOP];
+    two_of_the_manager(base);
+    return release_decide_by(base, SHOP, 0, minute, 0, 0, list, length, two, 4);
+}
+
+/* By the first policy manager and buyer have 5, by the second 3. */
+static void decisions_by(void) {
+    const uint8_t day[] = {RELEASE_RULE_LATER_DAY};
+    const uint8_t rank[] = {RELEASE_RULE_LARGER_RANK};
+    const uint8_t weight[] = {RELEASE_RULE_SMALLER_WEIGHT};
+    const uint8_t rank_first[] = {1, 0, 2};
+    const uint8_t repeated[] = {1, 0, 1};
+    const uint8_t four[] = {1, 0, 2, 1};
+    const uint8_t other[] = {1, 0, 3};
+    const uint8_t twice[] = {0, 0, 0, 0};
+    expect("the later day", RELEASE_REFUSAL_CONDITION, decide_by(600, day, 1));
+    expect("the larger rank", RELEASE_DONE, decide_by(600, rank, 1));
+    expect("the smaller weight", RELEASE_REFUSAL_CONDITION, decide_by(600, weight, 1));
+    expect("the rank first", RELEASE_DONE, decide_by(600, rank_first, 3));
+    expect("early the first alone", RELEASE_DONE, decide_by(480, day, 1));
+    expect("22", RELEASE_REFUSAL_RESOLUTION, decide_by(600, day, 0));
+    expect("22", RELEASE_REFUSAL_RESOLUTION, decide_by(600, repeated, 3));
+    expect("22", RELEASE_REFUSAL_RESOLUTION, decide_by(600, other, 3));
+    expect("22", RELEASE_REFUSAL_RESOLUTION,
+           decide_by(600, four, RELEASE_LONGEST_RESOLUTION + 1));
+    expect("its first three", RELEASE_DONE, decide_by(600, four, RELEASE_LONGEST_RESOLUTION));
+    expect("2 before 22", RELEASE_REFUSAL_LETTERS,
+           release_decide_by(shop, SHOP - 1, 256, 1440, 0, 0, other, 3, twice, 3));
+    expect("22 before 10", RELEASE_REFUSAL_RESOLUTION,
+           release_decide_by(shop, SHOP, 256, 1440, 0, 0, other, 3, twice, 3));
+    expect("10", RELEASE_REFUSAL_NO_PERMISSION,
+           release_decide_by(shop, SHOP, 256, 1440, 0, 0, day, 1, twice, 3));
+    expect("11", RELEASE_REFUSAL_CONTEXT,
+           release_decide_by(shop, SHOP, 0, 1440, 0, 0, day, 1, twice, 3));
+    expect("12", RELEASE_REFUSAL_GROUP_LENGTH,
+           release_decide_by(shop, SHOP, 0, 600, 0, 0, day, 1, twice, 3));
+    expect("14", RELEASE_REFUSAL_USER_TWICE,
+           release_decide_by(shop, SHOP, 0, 600, 0, 0, day, 1, twice, 4));
+    expect("the base's first bytes as list and group", RELEASE_REFUSAL_CONDITION,
+           release_decide_by(shop, SHOP, 0, 600, 0, 0, shop, 2, shop + 2, 2));
+}
+
 static void reports(void) {
     const uint8_t record[] = {2, 0, 0, 1, 1, 255, 255, 255, 255, 255, 255, 255, 255};
     uint8_t out[RELEASE_LONGEST_REPORT];
@@ -108,6 +162,37 @@ static void reports(void) {
     for (i = 0; i < sizeof out; i++) {
         expect("byte of the report", i < sizeof record ? record[i] : 7, out[i]);
     }
+}
+
+/* By the later day manager and buyer have 3, and nobody else has weight. */
+static void reports_by(void) {
+    const uint8_t day[] = {RELEASE_RULE_LATER_DAY};
+    const uint8_t rank[] = {RELEASE_RULE_LARGER_RANK, RELEASE_RULE_LATER_DAY};
+    const uint8_t twice[] = {1, 1};
+    uint8_t base[SHOP];
+    uint8_t out[RELEASE_PERMISSION_BYTES + 1];
+    two_of_the_manager(base);
+    memset(out, 7, sizeof out);
+    expect("2 before 22", RELEASE_REFUSAL_LETTERS,
+           release_report_by(base, SHOP - 1, 1440, 0, 0, twice, 2, out, 0));
+    expect("22 before 11", RELEASE_REFUSAL_RESOLUTION,
+           release_report_by(base, SHOP, 1440, 0, 0, twice, 2, out, 0));
+    expect("22", RELEASE_REFUSAL_RESOLUTION,
+           release_report_by(base, SHOP, 600, 0, 0, twice, 2, out, sizeof out));
+    expect("22", RELEASE_REFUSAL_RESOLUTION,
+           release_report_by(base, SHOP, 600, 0, 0, day, 0, out, sizeof out));
+    expect("11", RELEASE_REFUSAL_CONTEXT,
+           release_report_by(base, SHOP, 1440, 0, 0, day, 1, out, 0));
+    expect("19", RELEASE_REFUSAL_REPORT_BUFFER,
+           release_report_by(base, SHOP, 600, 0, 0, day, 1, out, RELEASE_PERMISSION_BYTES - 1));
+    expect("a refused report writes nothing", 7, out[0]);
+    expect("by the later day", 0, release_report_by(base, SHOP, 600, 0, 0, day, 1, out, sizeof out));
+    expect("no approvers", 0, out[0]);
+    expect("no entry", 255, out[1]);
+    expect("by the larger rank", 256,
+           release_report_by(base, SHOP, 600, 0, 0, rank, 2, out, sizeof out));
+    expect("approvers", 2, out[0]);
+    expect("the byte behind", 7, out[RELEASE_PERMISSION_BYTES]);
 }
 
 /* The shop with its three policies made the buyer's, of weights 1, 2 and 3. */
@@ -289,8 +374,10 @@ static void nulls(void) {
     memcpy(least + 32, "LCAP", 4);
     expect("no base", 1, release_check(NULL, 0));
     expect("no base", 1, release_decide(NULL, 0, 0, 480, 0, 0, NULL, 0));
+    expect("no base", 1, release_decide_by(NULL, 0, 0, 480, 0, 0, NULL, 0, NULL, 0));
     expect("no base", 1, release_report(NULL, 0, 480, 0, 0, out, sizeof out));
     expect("no base", 1, release_report(NULL, 0, 480, 0, 0, NULL, 0));
+    expect("no base", 1, release_report_by(NULL, 0, 480, 0, 0, NULL, 0, NULL, 0));
     expect("no base", 1, release_conflicts(NULL, 0, out, sizeof out));
     expect("no base", 1, release_conflicts(NULL, 0, NULL, 0));
     expect("no base", 1, release_bound(NULL, 0, 0, 5, NULL, 0));
@@ -298,24 +385,32 @@ static void nulls(void) {
     expect("no base", 1, release_sheet_ask(NULL, 0, 480, 0, 0, sheet));
     expect("no base", 1, release_sheet_open(NULL, 0, 0, sheet));
     expect("permission 255", 255, sheet[RELEASE_SHEET_PERMISSION]);
+    expect("no list", 22, release_decide_by(shop, SHOP, 0, 480, 0, 0, NULL, 0, NULL, 0));
+    expect("no list", 22, release_report_by(shop, SHOP, 480, 0, 0, NULL, 0, NULL, 0));
     expect("no group", 12, release_decide(shop, SHOP, 0, 480, 0, 0, NULL, 0));
+    expect("no group", 12, release_decide_by(shop, SHOP, 0, 480, 0, 0, shop, 1, NULL, 0));
     expect("no group", 12, release_bound(shop, SHOP, 0, 5, NULL, 0));
     expect("no buffer", 19, release_report(shop, SHOP, 480, 0, 0, NULL, 0));
+    expect("no buffer", 19, release_report_by(shop, SHOP, 480, 0, 0, shop, 1, NULL, 0));
     expect("no permission, no buffer", 0,
            release_report(least, sizeof least, 480, 0, 0, NULL, 0));
     expect("no conflict, no buffer", 0, release_conflicts(shop, SHOP, NULL, 0));
 }
 
-/* Bases, groups, buffers and sheets that start anywhere. */
+/* Bases, lists, groups, buffers and sheets that start anywhere. */
 static void unaligned(void) {
     const uint8_t two[] = {0, 0, 1, 1};
     uint8_t base[SHOP + 8];
+    uint8_t list[2 + 8];
     uint8_t group[4 + 8];
     uint8_t out[RELEASE_PERMISSION_BYTES + 8];
     uint8_t sheet[RELEASE_SHEET_BYTES + 8];
     size_t at;
     for (at = 0; at < 8; at++) {
         memcpy(base + at, shop, SHOP);
+        memset(list, 255, sizeof list);
+        list[at] = RELEASE_RULE_SMALLER_WEIGHT;
+        list[at + 1] = RELEASE_RULE_LATER_DAY;
         memcpy(group + at, two, 4);
         memset(out, 7, sizeof out);
         expect("check", 0, release_check(base + at, SHOP));
@@ -323,6 +418,11 @@ static void unaligned(void) {
         expect("report", 256,
                release_report(base + at, SHOP, 480, 0, 0, out + at, RELEASE_PERMISSION_BYTES));
         expect("approvers", 2, out[at]);
+        expect("decide by", 0,
+               release_decide_by(base + at, SHOP, 0, 480, 0, 0, list + at, 2, group + at, 4));
+        expect("report by", 256,
+               release_report_by(base + at, SHOP, 480, 0, 0, list + at, 2, out + at,
+                                 RELEASE_PERMISSION_BYTES));
         expect("conflicts", 0, release_conflicts(base + at, SHOP, out + at, 3));
         expect("bound", 256 * 8, release_bound(base + at, SHOP, 1, 5, group + at, 4));
         expect("open", 0, release_sheet_open(base + at, SHOP, 0, sheet + at));
@@ -340,7 +440,9 @@ int main(void) {
     checks();
     lengths();
     decisions();
+    decisions_by();
     reports();
+    reports_by();
     conflicts();
     bounds();
     openings();

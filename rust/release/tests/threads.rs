@@ -4,7 +4,8 @@ use std::thread::{self, Builder};
 
 use release::example::SMALL_SHOP;
 use release::{
-    bound_bytes, check, conflicts_into, decide_bytes, report, Context, Entry, Refusal, Sheet,
+    bound_bytes, check, conflicts_into, decide_by_bytes, decide_bytes, report, report_by, Context,
+    Entry, Refusal, Resolution, Rule, Sheet,
 };
 
 const EARLY: Context = Context {
@@ -40,15 +41,23 @@ fn releasable(base: &[u8]) -> Result<usize, Refusal> {
     report(base, EARLY).map(|report| report.count())
 }
 
+/// The same by the list of all rules.
+fn releasable_by(base: &[u8]) -> Result<usize, Refusal> {
+    let list = Resolution::new(&Rule::ALL).expect("three rules");
+    report_by(base, EARLY, list).map(|report| report.count())
+}
+
 #[test]
 fn a_report_in_64_kib() {
     const LITTLE: usize = 1 << 16;
-    assert_eq!(within(LITTLE, || releasable(&out_of_reach())), Ok(0));
-    assert_eq!(within(LITTLE, || releasable(&SMALL_SHOP)), Ok(1));
-    for (name, plan) in twin::worst::all() {
-        let base = plan.bytes();
-        let count = if name == "sixes" { 16 } else { 0 };
-        assert_eq!(within(LITTLE, move || releasable(&base)), Ok(count));
+    for releasable in [releasable, releasable_by] {
+        assert_eq!(within(LITTLE, move || releasable(&out_of_reach())), Ok(0));
+        assert_eq!(within(LITTLE, move || releasable(&SMALL_SHOP)), Ok(1));
+        for (name, plan) in twin::worst::all() {
+            let base = plan.bytes();
+            let count = if name == "sixes" { 16 } else { 0 };
+            assert_eq!(within(LITTLE, move || releasable(&base)), Ok(count));
+        }
     }
 }
 
@@ -58,6 +67,10 @@ fn every_other_call_in_32_kib() {
     assert_eq!(within(LITTLE, || check(&SMALL_SHOP)), Ok(()));
     let decided = within(LITTLE, || {
         decide_bytes(&out_of_reach(), 0, EARLY, &[0, 0, 1, 1])
+    });
+    assert_eq!(decided, Err(Refusal::Condition));
+    let decided = within(LITTLE, || {
+        decide_by_bytes(&out_of_reach(), 0, EARLY, &[0, 1, 2], &[0, 0, 1, 1])
     });
     assert_eq!(decided, Err(Refusal::Condition));
     let listed = within(LITTLE, || conflicts_into(&SMALL_SHOP, &mut [0; 9]));
@@ -77,6 +90,7 @@ fn many_at_once() {
                 let (base, count) = [(SMALL_SHOP, 1), (out_of_reach(), 0)][turn % 2];
                 for _ in 0..200 {
                     assert_eq!(releasable(&base), Ok(count));
+                    assert_eq!(releasable_by(&base), Ok(count));
                 }
             });
         }

@@ -19,6 +19,7 @@ pub fn holds<'a>(clauses: impl IntoIterator<Item = &'a Clause>, n: u32, sum: u32
 }
 
 /// Whether the clause's conditions hold, as many as it has.
+#[inline(always)]
 fn clause_holds(clause: &Clause, attributes: [u32; 4]) -> bool {
     conditions(clause).all(|&[attribute, operator, value]| {
         let x = attributes[usize::from(attribute & 3)];

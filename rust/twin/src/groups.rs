@@ -4,7 +4,7 @@
 use crate::acting::{acting_roles, holds_role};
 use crate::base::Base;
 use crate::conditions::holds;
-use crate::weights::{role_weights, Setting, Weights};
+use crate::weights::Weights;
 use crate::MOST;
 
 /// The entries, or the first of refusals 12 to 15 that applies.
@@ -27,13 +27,19 @@ pub fn members<'a>(base: &Base, juniors: &[u8; 8], group: &'a [u8]) -> Result<&'
 }
 
 /// 0 where the group is granted, else the first of refusals 12 to 17 that
-/// applies.
-pub fn group_refusal(base: &Base, permission: u8, setting: &Setting, group: &[u8]) -> u8 {
-    let entries = match members(base, &setting.juniors, group) {
+/// applies. The weights are asked for after 15.
+pub fn group_refusal(
+    base: &Base,
+    permission: u8,
+    juniors: &[u8; 8],
+    weights: impl FnOnce() -> Weights,
+    group: &[u8],
+) -> u8 {
+    let entries = match members(base, juniors, group) {
         Ok(entries) => entries,
         Err(refusal) => return refusal,
     };
-    let w = role_weights(base, setting, permission);
+    let w = weights();
     if entries.iter().any(|entry| weight_of(w, entry) == 0) {
         return 16;
     }

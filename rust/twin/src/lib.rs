@@ -17,6 +17,7 @@ mod multisets;
 mod operators;
 pub mod plan;
 mod related;
+mod resolution;
 mod rows;
 mod search;
 mod sheet;
@@ -25,6 +26,8 @@ pub mod worst;
 
 use base::Base;
 use model::{Answer, Context};
+use resolution::Rules;
+use weights::{Setting, Weights};
 
 pub use bound::bound;
 pub use sheet::{sheet_ask, sheet_open, sheet_sign};
@@ -50,14 +53,49 @@ pub fn decide(base: &[u8], permission: u32, at: Context, group: &[u8]) -> u8 {
         Ok(base) => base,
         Err(refusal) => return refusal,
     };
+    decide_checked(&base, permission, at, group, |setting, permission| {
+        weights::role_weights(&base, setting, permission)
+    })
+}
+
+/// The same by a resolution list: the first of refusals 1 to 9, 22, 10, 11 and
+/// 12 to 17.
+pub fn decide_by(base: &[u8], permission: u32, at: Context, list: &[u8], group: &[u8]) -> u8 {
+    let (base, rules) = match read_both(base, list) {
+        Ok(both) => both,
+        Err(refusal) => return refusal,
+    };
+    decide_checked(&base, permission, at, group, |setting, permission| {
+        weights::role_weights_by(&base, setting, permission, &rules)
+    })
+}
+
+/// A base and a resolution list, or the first of refusals 1 to 9 and 22 that
+/// applies.
+fn read_both<'a>(base: &'a [u8], list: &[u8]) -> Result<(Base<'a>, Rules), u8> {
+    let base = Base::read(base)?;
+    Ok((base, Rules::read(list)?))
+}
+
+/// 0, or the first of refusals 10 to 17 that applies.
+#[inline(always)]
+fn decide_checked(
+    base: &Base,
+    permission: u32,
+    at: Context,
+    group: &[u8],
+    weights: impl FnOnce(&Setting, u8) -> Weights,
+) -> u8 {
     if base.permissions.len() as u32 <= permission {
         return 10;
     }
     if !at.in_range() {
         return 11;
     }
-    let setting = weights::setting(&base, at);
-    groups::group_refusal(&base, permission as u8, &setting, group)
+    let setting = weights::setting(base, at);
+    let permission = permission as u8;
+    let weights = || weights(&setting, permission);
+    groups::group_refusal(base, permission, &setting.juniors, weights, group)
 }
 
 /// Writes the list of conflicts, 3 bytes each. The answer carries their
@@ -81,11 +119,35 @@ pub fn conflicts(base: &[u8], out: &mut [u8]) -> Answer {
 /// entries and the group, by rising user. Later bytes keep their contents.
 /// The answer carries how many permissions have a group. No refusal writes.
 pub fn report(base: &[u8], at: Context, out: &mut [u8]) -> Answer {
-    let refused = |refusal| Answer { refusal, count: 0 };
     let base = match Base::read(base) {
         Ok(base) => base,
-        Err(refusal) => return refused(refusal),
+        Err(refusal) => return Answer { refusal, count: 0 },
     };
+    report_checked(&base, at, out, |setting| {
+        weights::all_weights(&base, setting)
+    })
+}
+
+/// The same by a resolution list: the first of refusals 1 to 9, 22, 11 and 19.
+pub fn report_by(base: &[u8], at: Context, list: &[u8], out: &mut [u8]) -> Answer {
+    let (base, rules) = match read_both(base, list) {
+        Ok(both) => both,
+        Err(refusal) => return Answer { refusal, count: 0 },
+    };
+    report_checked(&base, at, out, |setting| {
+        weights::all_weights_by(&base, setting, &rules)
+    })
+}
+
+/// The report, or the first of refusals 11 and 19 that applies.
+#[inline(always)]
+fn report_checked(
+    base: &Base,
+    at: Context,
+    out: &mut [u8],
+    weights: impl FnOnce(&Setting) -> [Weights; 16],
+) -> Answer {
+    let refused = |refusal| Answer { refusal, count: 0 };
     if !at.in_range() {
         return refused(11);
     }
@@ -93,15 +155,20 @@ pub fn report(base: &[u8], at: Context, out: &mut [u8]) -> Answer {
         return refused(19);
     }
     let records = &mut out.as_chunks_mut().0[..base.permissions.len()];
-    let count = fill(&base, at, records);
+    let count = fill(base, at, weights, records);
     Answer { refusal: 0, count }
 }
 
 /// Writes the records; the number of permissions that have a group.
 #[inline(never)]
-fn fill(base: &Base, at: Context, records: &mut [[u8; RECORD]]) -> u32 {
+fn fill(
+    base: &Base,
+    at: Context,
+    weights: impl FnOnce(&Setting) -> [Weights; 16],
+    records: &mut [[u8; RECORD]],
+) -> u32 {
     let setting = weights::setting(base, at);
-    let w = weights::all_weights(base, &setting);
+    let w = weights(&setting);
     let next_ends = ends::next_ends(base.users, &setting.juniors);
     search::fill(base, &w, &next_ends, records)
 }
@@ -185,7 +252,7 @@ mod tests {
             for (permission, record) in (0..).zip(out.chunks_exact(RECORD)) {
                 let k = record[0];
                 let (group, left) = record[1..].split_at(2 * usize::from(k));
-                assert_eq!(k, model::smallest_by_reach(&base, AT, permission));
+                assert_eq!(k, model::smallest_by_reach(&base, AT, None, permission));
                 assert!(k == 0 || model::decide(&base, permission, AT, group) == 0);
                 assert!(rises(group) && left.iter().all(|&byte| byte == 255));
                 seen[usize::from(k)] += 1;
@@ -195,6 +262,116 @@ mod tests {
             assert_eq!(out[4 * RECORD], 7);
         }
         assert!(seen.iter().all(|&times| times > 0), "{seen:?}");
+    }
+
+    const LISTS: [&[u8]; 15] = [
+        &[0],
+        &[1],
+        &[2],
+        &[0, 1],
+        &[0, 2],
+        &[1, 0],
+        &[1, 2],
+        &[2, 0],
+        &[2, 1],
+        &[0, 1, 2],
+        &[0, 2, 1],
+        &[1, 0, 2],
+        &[1, 2, 0],
+        &[2, 0, 1],
+        &[2, 1, 0],
+    ];
+
+    /// A plan with many policies of three roles, and its bytes with few different
+    /// issue days and ranks. Users hold those roles alone, and the clauses ask for
+    /// sums.
+    fn rivals(draws: &mut Draws) -> (Plan, Vec<u8>) {
+        let mut plan = random_plan(draws);
+        for policy in &mut plan.policies {
+            policy.0 %= 3;
+        }
+        for user in &mut plan.users {
+            *user = 1 + *user % 7;
+        }
+        let sum = |draws: &mut Draws| (1, draws.byte(0, 5), draws.byte(1, 16));
+        plan.clauses = (0..4).map(|p| (p, vec![sum(draws)])).collect();
+        let mut base = plan.bytes();
+        let trailer = base.len() - 36;
+        let policies = usize::from(u16::from_le_bytes([base[trailer + 20], base[trailer + 21]]));
+        for policy in base[policies..trailer].chunks_exact_mut(8) {
+            (policy[5], policy[7]) = (draws.byte(0, 2), draws.byte(0, 2));
+        }
+        (plan, base)
+    }
+
+    #[test]
+    fn by_every_list_a_smallest_group_is_shown() {
+        let mut draws = Draws(9);
+        let mut others = [0; 15];
+        for _ in 0..200 {
+            let (_, base) = rivals(&mut draws);
+            for (list, others) in LISTS.into_iter().zip(&mut others) {
+                let mut out = [7; 4 * RECORD + 1];
+                let answer = report_by(&base, AT, list, &mut out);
+                let mut count = 0;
+                for (permission, record) in (0..).zip(out.chunks_exact(RECORD)) {
+                    let k = record[0];
+                    let group = &record[1..=2 * usize::from(k)];
+                    let smallest = |list| model::smallest_by_reach(&base, AT, list, permission);
+                    assert_eq!(k, smallest(Some(list)));
+                    assert!(k == 0 || model::decide_by(&base, permission, AT, list, group) == 0);
+                    *others += usize::from(k != smallest(None));
+                    count += u32::from(k > 0);
+                }
+                assert_eq!((answer.refusal, answer.count), (0, count));
+                assert_eq!(out[4 * RECORD], 7);
+            }
+        }
+        assert!(others.iter().all(|&times| times > 0), "{others:?}");
+    }
+
+    #[test]
+    fn by_every_list_a_decision_is_the_models() {
+        let mut draws = Draws(10);
+        let (mut answers, mut others) = ([0; 23], [0; 15]);
+        for _ in 0..1_000 {
+            let (plan, base) = rivals(&mut draws);
+            let group = random_group(&mut draws, &plan.users);
+            let permission = number(&mut draws, 0, 4);
+            for (list, others) in LISTS.into_iter().zip(&mut others) {
+                let answer = decide_by(&base, permission, AT, list, &group);
+                let by_model = model::decide_by(&base, permission, AT, list, &group);
+                assert_eq!(answer, by_model, "{list:?}");
+                answers[usize::from(answer)] += 1;
+                let without = model::decide(&base, permission, AT, &group);
+                *others += usize::from(answer != without);
+            }
+        }
+        for answer in [0, 10, 12, 13, 14, 15, 16, 17] {
+            assert!(answers[answer] > 0, "{answers:?}");
+        }
+        assert!(others.iter().all(|&times| times > 0), "{others:?}");
+    }
+
+    #[test]
+    fn a_list_is_refused_behind_the_base_alone() {
+        let late = Context { minute: 1440, ..AT };
+        let (_, base) = rivals(&mut Draws(7));
+        for list in [&[][..], &[0, 0], &[3], &[0, 1, 2, 0]] {
+            assert_eq!(decide_by(&base[1..], 4, late, list, &[]), 3);
+            assert_eq!(decide_by(&base, 4, late, list, &[]), 22);
+            let mut out = [7; 4 * RECORD];
+            let answer = report_by(&base, late, list, &mut out[..1]);
+            assert_eq!((answer.refusal, answer.count), (22, 0));
+            let answer = report_by(&base, AT, list, &mut out);
+            assert_eq!((answer.refusal, answer.count), (22, 0));
+            assert_eq!(out, [7; 4 * RECORD]);
+        }
+        assert_eq!(decide_by(&base, 4, late, &[0], &[]), 10);
+        assert_eq!(decide_by(&base, 0, late, &[0], &[]), 11);
+        assert_eq!(decide_by(&base, 0, AT, &[0], &[]), 12);
+        assert_eq!(report_by(&base, late, &[0], &mut []).refusal, 11);
+        assert_eq!(report_by(&base, AT, &[0], &mut []).refusal, 19);
     }
 
     /// Mostly a number below the end, at times one at it or far above.

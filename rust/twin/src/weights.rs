@@ -4,6 +4,7 @@ use model::Context;
 
 use crate::base::Base;
 use crate::operators::is_met;
+use crate::resolution::{Rules, NONE};
 
 /// Each role's weight.
 pub type Weights = [u8; 8];
@@ -12,6 +13,13 @@ pub type Weights = [u8; 8];
 pub struct Setting {
     contexts: u32,
     pub juniors: [u8; 8],
+}
+
+impl Setting {
+    #[inline(always)]
+    fn is_active(&self, context: u8) -> bool {
+        context == 255 || self.contexts >> (context & 31) & 1 == 1
+    }
 }
 
 pub fn setting(base: &Base, at: Context) -> Setting {
@@ -59,8 +67,7 @@ pub fn juniors(hierarchy: &[[u8; 2]]) -> [u8; 8] {
 pub fn role_weights(base: &Base, setting: &Setting, permission: u8) -> Weights {
     let (mut own, mut inh) = ([0; 8], [0; 8]);
     for &[role, of, weight, kind, context, ..] in base.policies {
-        let active = context == 255 || setting.contexts >> (context & 31) & 1 == 1;
-        if of != permission || !active {
+        if of != permission || !setting.is_active(context) {
             continue;
         }
         let role = usize::from(role & 7);
@@ -70,6 +77,51 @@ pub fn role_weights(base: &Base, setting: &Setting, permission: u8) -> Weights {
         }
     }
     std::array::from_fn(|role| own[role] + handed_on(inh, setting.juniors[role]))
+}
+
+/// The same by a list of rules.
+#[inline(never)]
+pub fn role_weights_by(base: &Base, setting: &Setting, permission: u8, rules: &Rules) -> Weights {
+    let (mut own, mut inh) = (Chosen::none(), Chosen::none());
+    for policy in base.policies {
+        let &[role, of, weight, kind, context, ..] = policy;
+        if of != permission || !setting.is_active(context) {
+            continue;
+        }
+        let (role, key) = (usize::from(role & 7), rules.key(policy));
+        own.keep_before(role, key, weight);
+        if kind == 1 {
+            inh.keep_before(role, key, weight);
+        }
+    }
+    let inh = inh.weights;
+    std::array::from_fn(|role| own.weights[role] + handed_on(inh, setting.juniors[role]))
+}
+
+/// Each role's chosen policy so far, by a list of rules: its key and its
+/// weight.
+#[derive(Clone, Copy)]
+struct Chosen {
+    keys: [u32; 8],
+    weights: Weights,
+}
+
+impl Chosen {
+    fn none() -> Chosen {
+        Chosen {
+            keys: [NONE; 8],
+            weights: [0; 8],
+        }
+    }
+
+    /// Keeps the one that goes before; of equal keys the earlier one.
+    #[inline(always)]
+    fn keep_before(&mut self, role: usize, key: u32, weight: u8) {
+        if key < self.keys[role] {
+            self.keys[role] = key;
+            self.weights[role] = weight;
+        }
+    }
 }
 
 fn keep_first(kept: &mut u8, weight: u8) {
@@ -87,7 +139,7 @@ fn handed_on(inh: [u8; 8], juniors: u8) -> u8 {
 pub fn all_weights(base: &Base, setting: &Setting) -> [Weights; 16] {
     let (mut own, mut inh) = ([[0; 8]; 16], [[0; 8]; 16]);
     for &[role, permission, weight, kind, context, ..] in base.policies {
-        if context != 255 && setting.contexts >> (context & 31) & 1 == 0 {
+        if !setting.is_active(context) {
             continue;
         }
         let (p, r) = (usize::from(permission & 15), usize::from(role & 7));
@@ -99,6 +151,28 @@ pub fn all_weights(base: &Base, setting: &Setting) -> [Weights; 16] {
     let mut w = own;
     for (w, inh) in w.iter_mut().zip(&inh).take(base.permissions.len()) {
         hand_on(w, inh, &setting.juniors);
+    }
+    w
+}
+
+/// The same by a list of rules.
+pub fn all_weights_by(base: &Base, setting: &Setting, rules: &Rules) -> [Weights; 16] {
+    let (mut own, mut inh) = ([Chosen::none(); 16], [Chosen::none(); 16]);
+    for policy in base.policies {
+        let &[role, permission, weight, kind, context, ..] = policy;
+        if !setting.is_active(context) {
+            continue;
+        }
+        let (p, r) = (usize::from(permission & 15), usize::from(role & 7));
+        let key = rules.key(policy);
+        own[p].keep_before(r, key, weight);
+        if kind == 1 {
+            inh[p].keep_before(r, key, weight);
+        }
+    }
+    let mut w = own.map(|own| own.weights);
+    for (w, inh) in w.iter_mut().zip(&inh).take(base.permissions.len()) {
+        hand_on(w, &inh.weights, &setting.juniors);
     }
     w
 }

@@ -199,7 +199,10 @@ mod tests {
         let base = plan.bytes();
         assert_eq!(model::check(&base), 0);
         for permission in 0..16 {
-            assert_eq!(model::smallest_by_reach(&base, AT, permission), number);
+            assert_eq!(
+                model::smallest_by_reach(&base, AT, None, permission),
+                number
+            );
         }
     }
 

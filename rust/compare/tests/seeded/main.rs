@@ -6,11 +6,14 @@ mod bounds;
 mod checks;
 mod conflicts;
 mod decisions;
+mod listed;
+mod lists;
 mod readings;
 mod reports;
 mod seen;
 mod sheets;
 mod shifts;
+mod shifts_by_lists;
 
 use std::time::{Duration, Instant};
 
@@ -29,6 +32,7 @@ fn seeded_comparison() {
     conflicts::compare(&mut seen);
     sheets::compare(&mut seen);
     bounds::compare(&mut seen);
+    lists::compare(&mut seen);
     let taken = start.elapsed();
     seen.print(taken);
     seen.expect_all();

@@ -2,20 +2,60 @@
 //! show each of them, in every call whose answer it can change.
 
 use compare::lent::Lent;
-use compare::questions::context_in_range;
+use compare::lists::{illegal_list, List, LEGAL};
+use compare::questions::{context_in_range, Asked};
 use compare::sheets::SheetCall;
 use compare::shown::{numbers, RECORD};
-use compare::{library_context, library_decision};
-use model::{Reading, Sheet};
+use compare::{library_decision, library_report};
+use model::{Context, Reading, Sheet};
 
-use crate::{bounds, conflicts, decisions, reports, sheets};
+use crate::{bounds, conflicts, decisions, lists, reports, sheets};
+
+/// Whether the library's decision isn't the model's by a reading.
+fn decision_differs(reading: Reading, base: &[u8], list: List, asked: &Asked) -> bool {
+    let Asked {
+        permission,
+        at,
+        group,
+    } = asked;
+    let by_model = model::decide_as(reading, base, *permission, *at, list, group);
+    library_decision(base, list, asked) != u32::from(by_model)
+}
+
+/// Whether the library's answer or numbers of approvers aren't the model's by a
+/// reading, for so many permissions.
+fn report_differs(
+    reading: Reading,
+    base: &[u8],
+    at: Context,
+    list: List,
+    permissions: usize,
+) -> bool {
+    let mut by_library = vec![0; RECORD * permissions];
+    let mut by_model = by_library.clone();
+    let library = library_report(base, at, list, &mut by_library);
+    let model = model::report_as(reading, base, at, list, &mut by_model);
+    library.refusal != u32::from(model.refusal) || numbers(&by_library) != numbers(&by_model)
+}
 
 /// In how many cases the library's decision isn't the model's by a reading.
 fn decisions_that_differ(reading: Reading) -> usize {
     let mut found = 0;
     decisions::sound_bases(500, |base, asked| {
-        let answer = model::decide_by(reading, base, asked.permission, asked.at, &asked.group);
-        found += usize::from(library_decision(base, asked) != u32::from(answer));
+        found += usize::from(decision_differs(reading, base, None, asked));
+    });
+    found
+}
+
+/// The same by lists: all legal ones, and two others.
+fn decisions_by_that_differ(reading: Reading) -> usize {
+    let mut found = 0;
+    lists::rival_questions(250, |random, base, asked| {
+        let others = [illegal_list(random), illegal_list(random)];
+        let others = others.iter().map(Vec::as_slice);
+        for list in LEGAL.into_iter().chain(others) {
+            found += usize::from(decision_differs(reading, base, Some(list), asked));
+        }
     });
     found
 }
@@ -26,25 +66,37 @@ fn reports_that_differ(reading: Reading) -> usize {
     let mut found = 0;
     reports::sound_bases(600, |random, records| {
         let at = context_in_range(random, records);
-        let base = records.bytes();
-        let mut by_library = vec![0; RECORD * records.permissions.len()];
-        let mut by_model = by_library.clone();
-        release::answers::report(&base, library_context(at), &mut by_library);
-        model::report_by(reading, &base, at, &mut by_model);
-        found += usize::from(numbers(&by_library) != numbers(&by_model));
+        let (base, permissions) = (records.bytes(), records.permissions.len());
+        found += usize::from(report_differs(reading, &base, at, None, permissions));
+    });
+    found
+}
+
+/// The same by lists: all legal ones, and two others.
+fn reports_by_that_differ(reading: Reading) -> usize {
+    let mut found = 0;
+    lists::rival_reports(120, |random, records| {
+        let at = context_in_range(random, records);
+        let (base, permissions) = (records.bytes(), records.permissions.len());
+        let others = [illegal_list(random), illegal_list(random)];
+        let others = others.iter().map(Vec::as_slice);
+        for list in LEGAL.into_iter().chain(others) {
+            let differs = report_differs(reading, &base, at, Some(list), permissions);
+            found += usize::from(differs);
+        }
     });
     found
 }
 
 /// How many bases have another list by the library than by the model's
 /// reading.
-fn lists_that_differ(reading: Reading) -> usize {
+fn conflicts_that_differ(reading: Reading) -> usize {
     let mut found = 0;
     conflicts::sound_bases(600, |random, base| {
         let mut by_library = Lent::noisy(random, 8_400);
         let mut by_model = by_library.clone();
         release::answers::conflicts(base, by_library.buffer());
-        model::conflicts_by(reading, base, by_model.buffer());
+        model::conflicts_as(reading, base, by_model.buffer());
         found += usize::from(by_library.first_difference(&by_model).is_some());
     });
     found
@@ -83,35 +135,54 @@ fn bounds_that_differ(reading: Reading) -> usize {
     found
 }
 
+/// Those of the decision, whose answers a report and an asking go by.
+const OF_DECISIONS: &[&str] = &[
+    "decisions",
+    "reports",
+    "askings",
+    "decisions by lists",
+    "reports by lists",
+];
+
+/// Those and the conflict list.
+const OF_CONTEXTS: &[&str] = &[
+    "decisions",
+    "reports",
+    "conflicts",
+    "askings",
+    "decisions by lists",
+    "reports by lists",
+];
+
+/// Those that look at who may act.
+const OF_ACTING: &[&str] = &[
+    "decisions",
+    "reports",
+    "signings",
+    "askings",
+    "bounds",
+    "decisions by lists",
+    "reports by lists",
+];
+
 /// The calls in which a reading shows.
 fn shows(reading: Reading) -> &'static [&'static str] {
     match reading {
         Reading::Paper => &[],
-        Reading::JuniorPerChain
-        | Reading::OwnTwice
-        | Reading::EntriesAsRoles
-        | Reading::MixedGroupClauses => &["decisions", "reports", "askings"],
-        Reading::HeaviestUsers => &["reports"],
-        Reading::MixedContextClauses => &["decisions", "reports", "lists", "askings"],
-        Reading::WeightAndType
-        | Reading::RelatedToItself
-        | Reading::SeniorsCovered
-        | Reading::ActedInAsHeld => &["lists"],
+        Reading::HeaviestUsers => &["reports", "reports by lists"],
+        Reading::MixedContextClauses => OF_CONTEXTS,
         Reading::PermissionKept => &["openings"],
-        Reading::PermissionAtSigning | Reading::FullFirst | Reading::AnotherRole => &["signings"],
         Reading::OverSixAsNone => &["signings", "askings"],
-        Reading::HeldAlone | Reading::DirectJuniors | Reading::SeniorsToo => {
-            &["decisions", "reports", "signings", "askings", "bounds"]
+        Reading::HeldAlone | Reading::DirectJuniors | Reading::SeniorsToo => OF_ACTING,
+        Reading::ListAfterPermission => &["decisions by lists"],
+        Reading::ListIgnored => &["reports by lists"],
+        _ if Reading::WRONG_IN_LISTS.contains(&reading) => &["conflicts"],
+        _ if Reading::WRONG_ON_SHEETS.contains(&reading) => &["signings"],
+        _ if Reading::WRONG_OF_BOUNDS.contains(&reading) => &["bounds"],
+        _ if Reading::WRONG_OF_RESOLUTION.contains(&reading) => {
+            &["decisions by lists", "reports by lists"]
         }
-        Reading::SeniorInSet | Reading::SeniorsWeight => &["decisions", "reports", "askings"],
-        Reading::JuniorsReached
-        | Reading::SeniorsAlone
-        | Reading::DirectSeniors
-        | Reading::SeniorPerChain
-        | Reading::TypeRegarded
-        | Reading::FirstAlone
-        | Reading::EntriesForgotten
-        | Reading::ChangeFirst => &["bounds"],
+        _ => OF_DECISIONS,
     }
 }
 
@@ -120,11 +191,13 @@ fn expect(reading: Reading) {
     let found = [
         ("decisions", decisions_that_differ(reading)),
         ("reports", reports_that_differ(reading)),
-        ("lists", lists_that_differ(reading)),
+        ("conflicts", conflicts_that_differ(reading)),
         ("openings", openings),
         ("signings", signings),
         ("askings", askings),
         ("bounds", bounds_that_differ(reading)),
+        ("decisions by lists", decisions_by_that_differ(reading)),
+        ("reports by lists", reports_by_that_differ(reading)),
     ];
     println!("{reading:?}: {found:?}");
     let found = found.iter().filter(|(_, count)| *count > 0);
@@ -144,4 +217,5 @@ fn every_wrong_reading_is_noticed() {
     Reading::WRONG_ON_SHEETS.into_iter().for_each(expect);
     Reading::WRONG_OF_ACTING.into_iter().for_each(expect);
     Reading::WRONG_OF_BOUNDS.into_iter().for_each(expect);
+    Reading::WRONG_OF_RESOLUTION.into_iter().for_each(expect);
 }

@@ -1,11 +1,14 @@
 //! How often each answer, number of approvers, kind of conflict, number of
-//! signatures and bound was seen, and how far below their roles users acted.
+//! signatures and bound was seen, how far below their roles users acted, and
+//! what resolution lists decided.
 
 use std::io::Write;
 use std::time::Duration;
 
 use compare::acting::Gain;
 use compare::tally::Tally;
+
+use crate::listed::Listed;
 
 /// The library's calls.
 #[derive(Clone, Copy)]
@@ -18,9 +21,14 @@ pub enum Call {
     Sign,
     Ask,
     Bound,
+    DecideBy,
+    ReportBy,
 }
 
-const CALLS: usize = 8;
+const CALLS: usize = 10;
+
+/// One past the last refusal's number.
+const REFUSALS: usize = 23;
 
 const NAMES: [&str; CALLS] = [
     "check",
@@ -31,6 +39,8 @@ const NAMES: [&str; CALLS] = [
     "sign",
     "ask",
     "bound",
+    "decide_by",
+    "report_by",
 ];
 
 /// The answers that each call can give.
@@ -43,6 +53,10 @@ const ANSWERS: [&[u8]; CALLS] = [
     &[0, 1, 2, 3, 4, 5, 6, 7, 8, 9, 13, 14, 15, 20],
     &[0, 1, 2, 3, 4, 5, 6, 7, 8, 9, 10, 11, 12, 13, 14, 15, 16, 17],
     &[0, 1, 2, 3, 4, 5, 6, 7, 8, 9, 12, 13, 14, 15, 21],
+    &[
+        0, 1, 2, 3, 4, 5, 6, 7, 8, 9, 22, 10, 11, 12, 13, 14, 15, 16, 17,
+    ],
+    &[0, 1, 2, 3, 4, 5, 6, 7, 8, 9, 22, 11, 19],
 ];
 
 /// Those that a sheet can get that openings and signings made: no user signs
@@ -64,14 +78,14 @@ const GAINS: [(Gain, &str); 3] = [
     (Gain::Group, "a group only by acting below a role held"),
 ];
 
-/// The fewest cases of each call: 600,000 and more in all.
+/// The fewest cases of each call: 800,000 and more in all.
 const FEWEST: [usize; CALLS] = [
-    100_000, 150_000, 20_000, 40_000, 20_000, 100_000, 100_000, 100_000,
+    100_000, 150_000, 20_000, 40_000, 20_000, 100_000, 100_000, 100_000, 150_000, 30_000,
 ];
 
 #[derive(Default)]
 pub struct Seen {
-    answers: [Tally<22>; CALLS],
+    answers: [Tally<REFUSALS>; CALLS],
     numbers: Tally<7>,
     kinds: Tally<4>,
     most_conflicts: u32,
@@ -85,6 +99,7 @@ pub struct Seen {
     bounds: Tally<25>,
     bounded: Tally<8>,
     reached: Tally<8>,
+    pub lists: Listed,
 }
 
 impl Seen {
@@ -169,7 +184,7 @@ impl Seen {
     /// Prints all of it, also where the tests' output is kept back.
     pub fn print(&self, taken: Duration) {
         let head = line("answer", NAMES.map(str::to_string), "in all");
-        let answers = (0..22).map(|answer| {
+        let answers = (0..REFUSALS as u8).map(|answer| {
             let seen = self.answers.each_ref().map(|tally| tally.seen(answer));
             row(&answer.to_string(), seen)
         });
@@ -206,6 +221,7 @@ impl Seen {
             .chain(bounds)
             .chain(acting)
             .chain(gains)
+            .chain(self.lists.lines())
             .chain([last])
             .collect();
         let text = format!("\n{}\n", lines.join("\n"));
@@ -234,6 +250,7 @@ impl Seen {
         let gains = GAINS.map(|(gain, _)| gain as u8);
         self.gains.expect_exactly("gain", &gains);
         self.bounds.expect_exactly("bound", BOUNDS);
+        self.lists.expect_all();
     }
 }
 

@@ -1,7 +1,6 @@
 //! What the request proves: if two accepted bases differ only in the weight of
-//! one policy, the sums of weights differ by at most the bound, for every list
-//! of numbers as a group, every permission and every context. Sums are the
-//! model's.
+//! one policy, the sums of weights differ by at most the bound, for any bytes as
+//! a group, every permission and every context. Sums are the model's.
 
 use std::io::Write;
 
@@ -14,7 +13,7 @@ use compare::random::Random;
 use compare::tally::Tally;
 use model::{Base, Change, Context, Reading, Situation};
 
-/// What the call answers for the lists that are tried.
+/// What the call answers for the groups that are tried.
 const ANSWERS: &[u8] = &[0, 12, 13, 14, 15];
 
 /// All bounds above 0: up to six entries and a difference of up to 4.
@@ -47,45 +46,38 @@ fn no_sum_shifts_by_more_than_the_bound() {
     found.expect_all();
 }
 
-/// Tries a change of one weight with lists of all kinds, in each permission and
+/// Tries a change of one weight with groups of all kinds, in each permission and
 /// one that isn't there, and in contexts of all kinds.
 fn compare_sums(random: &mut Random, records: &BaseBuilder, found: &mut Found) {
     let pair = Pair::random(random, records);
-    let lists: Vec<List> = lists(random, &pair)
-        .into_iter()
-        .map(|bytes| pair.list(bytes))
-        .collect();
-    for at in contexts(random, records, &pair, found) {
+    let groups = pair.groups(random);
+    let (contexts, turns) = pair.contexts(random, records);
+    found.turns += usize::from(turns);
+    for at in contexts {
+        found.active[usize::from(pair.is_active(at))] += 1;
         let situations = pair.bases.each_ref();
         let situations = situations.map(|base| Situation::new(base, at, Reading::Paper));
         for permission in 0..=records.permissions.len() as u8 {
-            for list in &lists {
-                let sums = situations.each_ref();
-                let [old, new] = sums.map(|by| by.sum(permission, &list.bytes));
-                let shift = old.abs_diff(new);
-                assert!(
-                    shift <= list.bound,
-                    "{old} and {new}, permission {permission}, {at:?}, {list:?}, {}",
-                    pair.described()
-                );
-                found.shift(list, shift);
+            for group in &groups {
+                let shift = pair.shift(&situations, at, permission, group);
+                found.shift(group, shift);
             }
         }
     }
 }
 
 /// Two bases that differ in the weight of one policy, or don't differ.
-struct Pair {
-    policy: usize,
+pub struct Pair {
+    pub policy: usize,
     weights: [u8; 2],
     bytes: [Vec<u8>; 2],
-    bases: [Base; 2],
+    pub bases: [Base; 2],
 }
 
 impl Pair {
     /// A base with policies and the same with one byte replaced, which passes
     /// too.
-    fn random(random: &mut Random, records: &BaseBuilder) -> Pair {
+    pub fn random(random: &mut Random, records: &BaseBuilder) -> Pair {
         let policy = random.below(records.policies.len());
         let weights = [records.policies[policy].weight, random.between(1, 5)];
         let old = records.bytes();
@@ -133,17 +125,62 @@ impl Pair {
         ask(0, 1)
     }
 
-    fn list(&self, bytes: Vec<u8>) -> List {
+    fn group(&self, bytes: Vec<u8>) -> Group {
         let by = |reading| self.change(reading).bound(&bytes) as u32;
         let formula = by(Reading::Paper);
         let (answer, bound) = self.answer(&bytes);
         assert!(answer != 0 || bound == formula);
-        List {
+        Group {
             answer,
             bound: if answer == 0 { bound } else { formula },
             wrong: WRONG.map(by),
             bytes,
         }
+    }
+
+    /// Groups sound and damaged, any bytes, long lists and each role alone.
+    pub fn groups(&self, random: &mut Random) -> Vec<Group> {
+        let [base, _] = &self.bases;
+        let change = self.change(Reading::Paper);
+        let mut groups = vec![
+            acting_group(random, base, Some(&change)).concat(),
+            acting_group(random, base, Some(&change)).concat(),
+            any_group(random, base, Some(&change)),
+            any_group(random, base, None),
+            loose_group(random),
+            long_group(random, base.roles),
+        ];
+        let alone = (0..=8).chain([255]);
+        groups.extend(alone.map(|role| vec![0, role]));
+        groups.into_iter().map(|bytes| self.group(bytes)).collect()
+    }
+
+    /// Two of any kind, at times out of range; one in which the policy is active
+    /// and one in which it isn't; and two beside each other of which it is active
+    /// in one. Whether there are such two.
+    pub fn contexts(&self, random: &mut Random, records: &BaseBuilder) -> (Vec<Context>, bool) {
+        let mut contexts = vec![any_context(random, records), any_context(random, records)];
+        let drawn = std::iter::repeat_with(|| context_in_range(random, records));
+        let drawn: Vec<Context> = drawn.take(20).collect();
+        for active in [true, false] {
+            contexts.extend(drawn.iter().find(|at| self.is_active(**at) == active));
+        }
+        let turn = drawn.iter().find_map(|at| turn(self, *at));
+        contexts.extend(turn.into_iter().flatten());
+        (contexts, turn.is_some())
+    }
+
+    /// By how much the group's sums differ. It is at most the bound.
+    pub fn shift(&self, by: &[Situation; 2], at: Context, permission: u8, group: &Group) -> u32 {
+        let sums = by.each_ref().map(|by| by.sum(permission, &group.bytes));
+        let [old, new] = sums;
+        let shift = old.abs_diff(new);
+        assert!(
+            shift <= group.bound,
+            "{old} and {new}, permission {permission}, {at:?}, {group:?}, {}",
+            self.described()
+        );
+        shift
     }
 
     /// Whether the policy is active.
@@ -154,70 +191,30 @@ impl Pair {
     }
 }
 
-/// A list of numbers as a group.
+/// Any bytes as a group.
 #[derive(Debug)]
-struct List {
+pub struct Group {
     bytes: Vec<u8>,
     /// What the call answers.
     answer: u8,
     /// The call's bound, or the request's formula where the call refuses.
-    bound: u32,
+    pub bound: u32,
     /// The formula by each of [`WRONG`].
     wrong: [u32; 8],
 }
 
-/// Groups sound and damaged, any bytes, long lists and each role alone.
-fn lists(random: &mut Random, pair: &Pair) -> Vec<Vec<u8>> {
-    let [base, _] = &pair.bases;
-    let change = pair.change(Reading::Paper);
-    let mut lists = vec![
-        acting_group(random, base, Some(&change)).concat(),
-        acting_group(random, base, Some(&change)).concat(),
-        any_group(random, base, Some(&change)),
-        any_group(random, base, None),
-        loose_group(random),
-        long_list(random, base.roles),
-    ];
-    let alone = (0..=8).chain([255]);
-    lists.extend(alone.map(|role| vec![0, role]));
-    lists
-}
-
 /// 7 to 100 entries of any users, mostly in roles that are there, and at times a
 /// byte more.
-fn long_list(random: &mut Random, roles: u8) -> Vec<u8> {
+fn long_group(random: &mut Random, roles: u8) -> Vec<u8> {
     let last = random.pick(&[roles - 1, roles, 8]);
-    let mut list = Vec::new();
+    let mut group = Vec::new();
     for _ in 0..random.between(7, 100) {
-        list.extend([random.byte(), random.between(0, last)]);
+        group.extend([random.byte(), random.between(0, last)]);
     }
     if random.chance(2) {
-        list.push(random.byte());
+        group.push(random.byte());
     }
-    list
-}
-
-/// Two of any kind, at times out of range; one in which the policy is active and
-/// one in which it isn't; and two beside each other of which it is active in one.
-fn contexts(
-    random: &mut Random,
-    records: &BaseBuilder,
-    pair: &Pair,
-    found: &mut Found,
-) -> Vec<Context> {
-    let mut contexts = vec![any_context(random, records), any_context(random, records)];
-    let drawn = std::iter::repeat_with(|| context_in_range(random, records));
-    let drawn: Vec<Context> = drawn.take(20).collect();
-    for active in [true, false] {
-        contexts.extend(drawn.iter().find(|at| pair.is_active(**at) == active));
-    }
-    let turn = drawn.iter().find_map(|at| turn(pair, *at));
-    contexts.extend(turn.into_iter().flatten());
-    found.turns += usize::from(turn.is_some());
-    for at in &contexts {
-        found.active[usize::from(pair.is_active(*at))] += 1;
-    }
-    contexts
+    group
 }
 
 /// The context and one a minute, a day or a zone away, if the policy is active
@@ -257,22 +254,22 @@ struct Found {
 }
 
 impl Found {
-    /// Notes by how much the sum of a list differs.
-    fn shift(&mut self, list: &List, shift: u32) {
+    /// Notes by how much the sum of a group differs.
+    fn shift(&mut self, group: &Group, shift: u32) {
         self.sums += 1;
-        for (exceeded, wrong) in self.exceeded.iter_mut().zip(list.wrong) {
+        for (exceeded, wrong) in self.exceeded.iter_mut().zip(group.wrong) {
             *exceeded += usize::from(wrong < shift);
         }
-        if list.bound == 0 {
+        if group.bound == 0 {
             return;
         }
-        self.above_0.add(list.answer);
+        self.above_0.add(group.answer);
         match shift {
             0 => self.not_at_all += 1,
-            _ if shift < list.bound => self.in_part += 1,
-            _ => self.reached.add(list.answer),
+            _ if shift < group.bound => self.in_part += 1,
+            _ => self.reached.add(group.answer),
         }
-        if shift == list.bound && list.answer == 0 {
+        if shift == group.bound && group.answer == 0 {
             self.bounds.add(shift as u8);
         }
     }
