@@ -2,27 +2,10 @@
 
 use crate::random::Random;
 
+pub use model::LEGAL_LISTS as LEGAL;
+
 /// A list that is lent, or none.
 pub type List<'a> = Option<&'a [u8]>;
-
-/// All lists of one to three different rules.
-pub const LEGAL: [&[u8]; 15] = [
-    &[0],
-    &[1],
-    &[2],
-    &[0, 1],
-    &[0, 2],
-    &[1, 0],
-    &[1, 2],
-    &[2, 0],
-    &[2, 1],
-    &[0, 1, 2],
-    &[0, 2, 1],
-    &[1, 0, 2],
-    &[1, 2, 0],
-    &[2, 0, 1],
-    &[2, 1, 0],
-];
 
 /// Some lists that 22 refuses.
 pub const ILLEGAL: [&[u8]; 12] = [

@@ -54,7 +54,7 @@ pub use refusal::Refusal;
 pub use related::{related_by_trial, Relations};
 pub use release_list::{lines, render};
 pub use report::{report, report_as, report_by};
-pub use resolution::{Numbered, Resolution, Rule};
+pub use resolution::{Numbered, Resolution, Rule, LEGAL_LISTS};
 pub use roles::{Role, RoleSet};
 pub use seniority::Seniority;
 pub use sheet::{

@@ -45,6 +45,25 @@ impl Rule {
     }
 }
 
+/// All lists of one to three different rules.
+pub const LEGAL_LISTS: [&[u8]; 15] = [
+    &[0],
+    &[1],
+    &[2],
+    &[0, 1],
+    &[0, 2],
+    &[1, 0],
+    &[1, 2],
+    &[2, 0],
+    &[2, 1],
+    &[0, 1, 2],
+    &[0, 2, 1],
+    &[1, 0, 2],
+    &[1, 2, 0],
+    &[2, 0, 1],
+    &[2, 1, 0],
+];
+
 /// A policy with its number in A.
 pub type Numbered<'a> = (usize, &'a Policy);
 

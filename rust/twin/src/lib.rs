@@ -264,24 +264,6 @@ mod tests {
         assert!(seen.iter().all(|&times| times > 0), "{seen:?}");
     }
 
-    const LISTS: [&[u8]; 15] = [
-        &[0],
-        &[1],
-        &[2],
-        &[0, 1],
-        &[0, 2],
-        &[1, 0],
-        &[1, 2],
-        &[2, 0],
-        &[2, 1],
-        &[0, 1, 2],
-        &[0, 2, 1],
-        &[1, 0, 2],
-        &[1, 2, 0],
-        &[2, 0, 1],
-        &[2, 1, 0],
-    ];
-
     /// A plan with many policies of three roles, and its bytes with few different
     /// issue days and ranks. Users hold those roles alone, and the clauses ask for
     /// sums.
@@ -310,7 +292,7 @@ mod tests {
         let mut others = [0; 15];
         for _ in 0..200 {
             let (_, base) = rivals(&mut draws);
-            for (list, others) in LISTS.into_iter().zip(&mut others) {
+            for (list, others) in model::LEGAL_LISTS.into_iter().zip(&mut others) {
                 let mut out = [7; 4 * RECORD + 1];
                 let answer = report_by(&base, AT, list, &mut out);
                 let mut count = 0;
@@ -338,7 +320,7 @@ mod tests {
             let (plan, base) = rivals(&mut draws);
             let group = random_group(&mut draws, &plan.users);
             let permission = number(&mut draws, 0, 4);
-            for (list, others) in LISTS.into_iter().zip(&mut others) {
+            for (list, others) in model::LEGAL_LISTS.into_iter().zip(&mut others) {
                 let answer = decide_by(&base, permission, AT, list, &group);
                 let by_model = model::decide_by(&base, permission, AT, list, &group);
                 assert_eq!(answer, by_model, "{list:?}");
