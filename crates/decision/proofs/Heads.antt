@@ -12,8 +12,8 @@ use Rattle.reader.specs.Tables.{permissionCount}
 use Rattle.reader.specs.Rules.{refusalOf}
 use Rattle.weights.specs.declared.Context.{Context}
 use Rattle.weights.specs.Contexts.{outOfRange}
-use Rattle.weights.specs.Resolution.{listRefused, lent}
-use Rattle.weights.proofs.Lending.{lent-left, lent-refused}
+use Rattle.resolution.specs.Resolution.{listRefused, lent}
+use Rattle.resolution.proofs.Lending.{lent-left, lent-refused}
 use Rattle.decision.specs.Decision.{groupDecision, asking, decisionBy, decisionLent}
 use Rattle.decision.specs.Granting.{GrantedBy}
 use Rattle.decision.proofs.Granting.{granted-by}

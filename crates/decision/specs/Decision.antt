@@ -7,7 +7,7 @@ use Rattle.reader.specs.Tables.{clauses, roleCount, userCount, permissionCount,
 use Rattle.reader.specs.Rules.{refusalOf}
 use Rattle.weights.specs.declared.Context.{Context}
 use Rattle.weights.specs.Contexts.{outOfRange}
-use Rattle.weights.specs.Resolution.{lent}
+use Rattle.resolution.specs.Resolution.{lent}
 use Rattle.weights.specs.Weights.{weight}
 use Rattle.weights.specs.Acting.{mayAct}
 use Rattle.decision.specs.Conditions.{permissionHolds}

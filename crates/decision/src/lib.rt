@@ -33,7 +33,7 @@ pub fn decide_by(base: &[u8], permission: u32, at: Context, list: &[u8], group: 
     ensures { λ r. ⌜
         r ≡ decisionLent (now (list .entry)) (now (base .entry)) at permission (now (group .entry)) ⌝ }
 {
-    let lent = weights::resolution::lent_refusal(base, list);
+    let lent = resolution::lent_refusal(base, list);
     if lent != 0 {
         return lent;
     }

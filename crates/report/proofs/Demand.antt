@@ -13,7 +13,7 @@ use Rattle.folds.specs.Below.{joinBelow}
 use Rattle.reader.specs.declared.Answer.{Answer}
 use Rattle.reader.specs.Tables.{permissionCount}
 use Rattle.weights.specs.declared.Context.{Context}
-use Rattle.weights.proofs.Lending.{lent-left}
+use Rattle.resolution.proofs.Lending.{lent-left}
 use Rattle.decision.specs.Groups.{entryCount}
 use Rattle.decision.specs.Decision.{decisionBy, decisionLent}
 use Rattle.report.specs.Smallest.{Deciding, smallestBy}

@@ -12,7 +12,7 @@ use Rattle.reader.specs.Tables.{permissionCount}
 use Rattle.reader.specs.Rules.{refusalOf}
 use Rattle.weights.specs.declared.Context.{Context}
 use Rattle.weights.specs.Contexts.{outOfRange}
-use Rattle.weights.specs.Resolution.{listRefused}
+use Rattle.resolution.specs.Resolution.{listRefused}
 use Rattle.decision.specs.Decision.{decisionOf, decisionLent}
 use Rattle.decision.specs.Groups.{entryCount, entryUser}
 use Rattle.report.specs.Smallest.{Deciding}

@@ -12,7 +12,7 @@ use Rattle.reader.specs.Tables.{permissionCount}
 use Rattle.reader.specs.Rules.{refusalOf}
 use Rattle.weights.specs.declared.Context.{Context}
 use Rattle.weights.specs.Contexts.{outOfRange}
-use Rattle.weights.specs.Resolution.{lent}
+use Rattle.resolution.specs.Resolution.{lent}
 use Rattle.decision.specs.Decision.{decisionBy, decisionOf}
 use Rattle.decision.specs.Groups.{entryUser}
 use Rattle.report.specs.Smallest.{Deciding, smallestBy}

@@ -51,7 +51,7 @@ pub fn report_by(base: &[u8], at: Context, list: &[u8], out: &mut [u8]) -> Answe
     ensures demand { λ r. ⌜
         DemandedLent (now (list .entry)) (now (base .entry)) at (now (out .entry)) (now (out .exit)) r ⌝ }
 {
-    let refused = weights::resolution::lent_refusal(base, list);
+    let refused = resolution::lent_refusal(base, list);
     if refused != 0 {
         return Answer {
             refusal: refused,

@@ -15,10 +15,10 @@ use Rattle.folds.proofs.Bools.{met-or-not, clash}
 use Rattle.folds.proofs.Tests.{any-same, any-at}
 use Rattle.reader.specs.Tables.{policies, recordCount}
 use Rattle.reader.specs.Fields.{policyWeight, policyRank, policyIssueDay}
-use Rattle.weights.specs.Resolution.{ruleBefore, goesBefore}
+use Rattle.resolution.specs.Resolution.{ruleBefore, goesBefore}
 use Rattle.weights.specs.Weights.{candidate, chosenWeight}
 use Rattle.weights.proofs.Agree.{SameChoice, same-rule, same-candidate}
-use Rattle.weights.proofs.Order.{one-before}
+use Rattle.resolution.proofs.Order.{one-before}
 use Rattle.weights.proofs.Foremost.{Foremost, chosen-found}
 use Rattle.weights.proofs.Choice.{chosen-zero, chosen-weighs}
 use Rattle.shift.specs.Shift.{distance}

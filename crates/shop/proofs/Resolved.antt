@@ -1,7 +1,7 @@
 -- The worked lists: by computing both sides.
 use mathlib.Core.Path.{refl}
 use Rattle.reader.specs.Bytes.{word16}
-use Rattle.weights.specs.Resolution.{ruleBefore, goesBefore, listRefused}
+use Rattle.resolution.specs.Resolution.{ruleBefore, goesBefore, listRefused}
 use Rattle.weights.specs.Weights.{chosen}
 use Rattle.shop.specs.Resolved.{table, Resolved}
 

@@ -5,7 +5,7 @@ use mathlib.Core.Path.{_≡_}
 use mathlib.Core.List.{List, [], _∷_}
 use lib.Dec.{eqb}
 use Rattle.reader.specs.Tables.{policies, recordCount}
-use Rattle.weights.specs.Resolution.{goesBefore, listRefused}
+use Rattle.resolution.specs.Resolution.{goesBefore, listRefused}
 use Rattle.weights.specs.Weights.{chosen, anyType, typeOne}
 
 -- the role and the permission asked for, and which context numbers hold: only 255

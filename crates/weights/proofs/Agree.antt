@@ -20,7 +20,7 @@ use Rattle.reader.specs.Fields.{policyRank, policyIssueDay}
 use Rattle.weights.specs.declared.Context.{Context}
 use Rattle.weights.specs.Contexts.{contextConditionHolds, contextClauseHolds, clauseOfHolds, contextHolds}
 use Rattle.weights.specs.Seniority.{chainWithin, seniorTo}
-use Rattle.weights.specs.Resolution.{ruleBefore, goesBefore}
+use Rattle.resolution.specs.Resolution.{ruleBefore, goesBefore}
 use Rattle.weights.specs.Weights.{candidate, isChosen, chosen, chosenWeight, anyType, typeOne, own, inh, weight}
 
 -- H records that agree

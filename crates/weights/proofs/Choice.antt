@@ -14,7 +14,7 @@ use Rattle.folds.specs.Below.{anyBelow, firstBelow}
 use Rattle.folds.proofs.Bools.{met-or-not}
 use Rattle.folds.proofs.Tests.{any-each, any-same, first-lt, first-more, first-none, first-same}
 use Rattle.reader.specs.Fields.{policyRole, policyPermission, policyWeight, policyType, policyContext}
-use Rattle.weights.specs.Resolution.{goesBefore}
+use Rattle.resolution.specs.Resolution.{goesBefore}
 use Rattle.weights.specs.Weights.{candidate, isChosen, chosen, chosenWeight}
 use Rattle.weights.specs.Setting.{firstOf, Vacant, Placed}
 use Rattle.weights.proofs.Foremost.{Foremost, chosen-is, chosen-nothing, chosen-first}

@@ -14,9 +14,9 @@ use Rattle.folds.proofs.Bools.{and-left, and-right, and-both, and-not-first, an
 use Rattle.folds.proofs.Bools.{or-last, met-or-not, never-met, clash}
 use Rattle.folds.proofs.Tests.{any-at, any-each, any-found, any-next, split}
 use Rattle.folds.proofs.Tests.{first-at, first-least, first-lt, first-none}
-use Rattle.weights.specs.Resolution.{goesBefore}
+use Rattle.resolution.specs.Resolution.{goesBefore}
 use Rattle.weights.specs.Weights.{candidate, isChosen, ExactlyOne, chosen}
-use Rattle.weights.proofs.Order.{Order, rules-order, one-before, not-itself}
+use Rattle.resolution.proofs.Order.{Order, rules-order, one-before, not-itself}
 
 module _ (rules : List ℕ) (inForce f : ℕ → Bool) (a : List ℕ) (r p : ℕ) where
   abbrev counts : ℕ → Bool

@@ -1,8 +1,6 @@
 pub mod Agree
 pub mod Chains
-pub mod Order
 pub mod Foremost
-pub mod Lending
 pub mod Choice
 pub mod Resolving
 pub mod MayAct

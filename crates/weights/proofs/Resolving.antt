@@ -13,7 +13,7 @@ use Rattle.folds.specs.Below.{anyBelow}
 use Rattle.folds.proofs.Bools.{met-or-not, or-left, or-right, or-last, clash}
 use Rattle.folds.proofs.Tests.{any-at, any-more, any-none}
 use Rattle.reader.specs.Fields.{policyRole, policyPermission, policyWeight, policyType, policyContext}
-use Rattle.weights.specs.Resolution.{goesBefore}
+use Rattle.resolution.specs.Resolution.{goesBefore}
 use Rattle.weights.specs.Weights.{candidate, chosenWeight}
 use Rattle.weights.specs.Setting.{takenUp, Placed}
 use Rattle.weights.proofs.Foremost.{Foremost, foremost-skip, foremost-kept, foremost-only, foremost-new}

@@ -1,7 +1,6 @@
 pub mod Operators
 pub mod Contexts
 pub mod Seniority
-pub mod Resolution
 pub mod Weights
 pub mod Acting
 pub mod Setting

@@ -14,7 +14,7 @@ use Rattle.weights.specs.declared.Context.{Context}
 use Rattle.weights.specs.declared.Fixed.{Fixed}
 use Rattle.weights.specs.Contexts.{contextHolds}
 use Rattle.weights.specs.Seniority.{seniorTo}
-use Rattle.weights.specs.Resolution.{goesBefore}
+use Rattle.resolution.specs.Resolution.{goesBefore}
 use Rattle.weights.specs.Weights.{chosenWeight, anyType, typeOne, own, inh, weight}
 
 -- the set s has the context numbers 0 to 15 that hold by the table C

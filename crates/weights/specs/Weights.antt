@@ -11,7 +11,7 @@ use Rattle.reader.specs.Fields.{policyRole, policyPermission, policyWeight, pol
 use Rattle.weights.specs.declared.Context.{Context}
 use Rattle.weights.specs.Contexts.{contextHolds}
 use Rattle.weights.specs.Seniority.{seniorTo}
-use Rattle.weights.specs.Resolution.{goesBefore}
+use Rattle.resolution.specs.Resolution.{goesBefore}
 
 -- policy i of the table A is active: its context holds; inForce tells of each context number whether it does
 abbrev pub active : (ℕ → Bool) → List ℕ → ℕ → Bool

@@ -14,7 +14,6 @@ pub mod contexts;
 mod inherited;
 pub mod operators;
 mod policies;
-pub mod resolution;
 pub mod seniority;
 pub mod sets;
 

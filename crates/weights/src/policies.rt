@@ -1,5 +1,4 @@
 // The policy that counts for each role and permission: one pass over A.
-use crate::resolution;
 use crate::sets;
 use reader::bytes;
 ghost use mathlib.Core.Path.{_≡_};

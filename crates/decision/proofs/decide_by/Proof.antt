@@ -11,8 +11,8 @@ use Rattle.reader.specs.Rules.{refusalOf}
 use Rattle.reader.proofs.Frame.{permissions-le}
 use Rattle.reader.proofs.Accepted.{accepted-frame}
 use Rattle.weights.specs.declared.Context.{Context}
-use Rattle.weights.specs.Resolution.{listRefused}
-use Rattle.weights.proofs.Lending.{legal-list, lent-none}
+use Rattle.resolution.specs.Resolution.{listRefused}
+use Rattle.resolution.proofs.Lending.{legal-list, lent-none}
 use Rattle.decision.specs.Decision.{asking, decisionBy, decisionLent}
 use Rattle.decision.proofs.Heads.{asking-there, asking-refused, group-decided, list-refused, list-decided}
 use Rattle.decision.proofs.decide_by.Statement.{statement}

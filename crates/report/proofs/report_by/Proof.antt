@@ -10,8 +10,8 @@ use Rattle.reader.specs.Tables.{permissionCount}
 use Rattle.reader.specs.Rules.{refusalOf}
 use Rattle.weights.specs.declared.Context.{Context}
 use Rattle.weights.specs.Contexts.{outOfRange}
-use Rattle.weights.specs.Resolution.{listRefused}
-use Rattle.weights.proofs.Lending.{legal-list, lent-none}
+use Rattle.resolution.specs.Resolution.{listRefused}
+use Rattle.resolution.proofs.Lending.{legal-list, lent-none}
 use Rattle.decision.specs.Decision.{decisionBy}
 use Rattle.report.specs.Report.{fitting, reportRefusalLent, ReportedLent}
 use Rattle.report.specs.Demand.{DemandedLent}

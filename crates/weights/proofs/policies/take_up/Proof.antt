@@ -8,7 +8,7 @@ use borrow.Author.Needs.{needs}
 use borrow.Author.Tests.{eq-eqb, ne-eqb, not-true, not-false}
 use lib.ListN.{getD}
 use Rattle.folds.proofs.Bools.{or-first, or-second, or-neither}
-use Rattle.weights.specs.Resolution.{goesBefore}
+use Rattle.resolution.specs.Resolution.{goesBefore}
 use Rattle.weights.specs.Setting.{takenUp}
 use Rattle.weights.proofs.policies.take_up.Statement.{statement}
 use Rattle.weights.proofs.policies.take_up.Tie as tie

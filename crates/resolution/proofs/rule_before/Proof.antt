@@ -8,9 +8,9 @@ use borrow.Author.Needs.{needs}
 use borrow.Author.Tests.{ne-eqb}
 use lib.Dec.{ltb}
 use Rattle.reader.specs.Fields.{policyWeight, policyRank, policyIssueDay}
-use Rattle.weights.specs.Resolution.{ruleBefore}
-use Rattle.weights.proofs.resolution.rule_before.Statement.{statement}
-use Rattle.weights.proofs.resolution.rule_before.Tie as tie
+use Rattle.resolution.specs.Resolution.{ruleBefore}
+use Rattle.resolution.proofs.rule_before.Statement.{statement}
+use Rattle.resolution.proofs.rule_before.Tie as tie
 
 module _ {rule : ℕ} (a : List ℕ) (i j : ℕ) where
   by-day : {x y : ℕ} → rule ≡ 0 → x ≡ policyIssueDay a j → y ≡ policyIssueDay a i → ltb x y ≡ ruleBefore rule a i j

@@ -9,9 +9,9 @@ use lib.ListN.{length, getD}
 use Rattle.folds.specs.Below.{anyBelow}
 use Rattle.folds.proofs.Bools.{or-first, or-second, or-neither}
 use Rattle.folds.proofs.Searches.{NoneYet, none-at-first, none-further, one-found, none-found}
-use Rattle.weights.specs.Resolution.{repeated, ruleRefused, listRefused}
-use Rattle.weights.proofs.resolution.list_refused.Statement.{statement}
-use Rattle.weights.proofs.resolution.list_refused.Tie as tie
+use Rattle.resolution.specs.Resolution.{repeated, ruleRefused, listRefused}
+use Rattle.resolution.proofs.list_refused.Statement.{statement}
+use Rattle.resolution.proofs.list_refused.Tie as tie
 
 module _ (list : List ℕ) where
   empty : length list ≡ 0 → true ≡ listRefused list

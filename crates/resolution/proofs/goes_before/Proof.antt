@@ -9,9 +9,9 @@ use lib.Dec.{ltb}
 use lib.ListN.{length, getD, drop, drop-of-length-le}
 use lib.Seq.{drop-cons}
 use borrow.Author.Needs.{needs}
-use Rattle.weights.specs.Resolution.{ruleBefore, goesBefore}
-use Rattle.weights.proofs.resolution.goes_before.Statement.{statement}
-use Rattle.weights.proofs.resolution.goes_before.Tie as tie
+use Rattle.resolution.specs.Resolution.{ruleBefore, goesBefore}
+use Rattle.resolution.proofs.goes_before.Statement.{statement}
+use Rattle.resolution.proofs.goes_before.Tie as tie
 
 -- the loop's invariant: the rules from k on decide
 record Turn (list a : List ℕ) (i j k : ℕ) : Type 0 where

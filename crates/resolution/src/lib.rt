@@ -3,7 +3,7 @@ use reader::bytes;
 ghost use mathlib.Core.Path.{_≡_};
 ghost use Prim.Native.Nat.{_+_, _*_, _≤_, _<_};
 ghost use lib.ListN.{length, take};
-ghost use Rattle.weights.specs.Resolution.{ruleBefore, goesBefore, repeated, listRefused, lent};
+ghost use Rattle.resolution.specs.Resolution.{ruleBefore, goesBefore, repeated, listRefused, lent};
 
 // Byte k of the list stands before it too.
 fn is_repeated(list: &[u8], k: usize) -> bool

@@ -7,9 +7,9 @@ use lib.ListN.{getD}
 use borrow.Author.Tests.{ne-eqb, eq-eqb}
 use borrow.Author.Needs.{needs}
 use Rattle.folds.proofs.Searches.{NoneYet, none-at-first, none-further, one-found, none-found}
-use Rattle.weights.specs.Resolution.{repeated}
-use Rattle.weights.proofs.resolution.is_repeated.Statement.{statement}
-use Rattle.weights.proofs.resolution.is_repeated.Tie as tie
+use Rattle.resolution.specs.Resolution.{repeated}
+use Rattle.resolution.proofs.is_repeated.Statement.{statement}
+use Rattle.resolution.proofs.is_repeated.Tie as tie
 
 abbrev sameByte : List ℕ → ℕ → ℕ → Bool
 sameByte list k j = eqb (getD list j 0) (getD list k 0)

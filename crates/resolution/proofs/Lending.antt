@@ -13,7 +13,7 @@ use Rattle.folds.proofs.Bools.{or-left, or-right, or-neither, met-or-not, met, 
 use Rattle.folds.proofs.Bools.{none-refused}
 use Rattle.folds.proofs.Tests.{any-at, any-each}
 use Rattle.reader.specs.Rules.{refusalOf}
-use Rattle.weights.specs.Resolution.{repeated, ruleRefused, Legal, listRefused, lent}
+use Rattle.resolution.specs.Resolution.{repeated, ruleRefused, Legal, listRefused, lent}
 
 -- 22 refuses all lists but those of 1 to 3 different rules
 pub legal-list : (list : List ℕ) → (listRefused list ≡ false) ↔ Legal list

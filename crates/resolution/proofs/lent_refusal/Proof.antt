@@ -1,9 +1,9 @@
 -- `lent_refusal` meets its contract: the base is checked, then the list.
 use mathlib.Core.Path.{sym, _∙_}
 use borrow.Author.Needs.{needs}
-use Rattle.weights.proofs.Lending.{lent-base, lent-22, lent-left}
-use Rattle.weights.proofs.resolution.lent_refusal.Statement.{statement}
-use Rattle.weights.proofs.resolution.lent_refusal.Tie as tie
+use Rattle.resolution.proofs.Lending.{lent-base, lent-22, lent-left}
+use Rattle.resolution.proofs.lent_refusal.Statement.{statement}
+use Rattle.resolution.proofs.lent_refusal.Tie as tie
 
 abbrev at-list : tie.After-list-refused → tie.After-check
 at-list c = c .before .before

@@ -7,8 +7,8 @@ use native.Mathlib.Omega.{arith}
 use lib.ListN.{length, getD, set, take, length-set}
 use lib.Seq.{take-suc, take-suc-set, take-length}
 use borrow.Author.Needs.{needs}
-use Rattle.weights.proofs.resolution.rules_of.Statement.{statement}
-use Rattle.weights.proofs.resolution.rules_of.Tie as tie
+use Rattle.resolution.proofs.rules_of.Statement.{statement}
+use Rattle.resolution.proofs.rules_of.Tie as tie
 
 -- the loop's invariant: the bytes before k are there
 record Turn (list rules : List ℕ) (k : ℕ) : Type 0 where

@@ -9,7 +9,7 @@ use borrow.Author.Tests.{ltb-true, ltb-false, lt-ltb, le-ltb}
 use lib.Dec.{ltb, eqb}
 use Rattle.folds.proofs.Bools.{met-or-not, clash}
 use Rattle.reader.specs.Fields.{policyWeight, policyRank, policyIssueDay}
-use Rattle.weights.specs.Resolution.{ruleBefore, goesBefore}
+use Rattle.resolution.specs.Resolution.{ruleBefore, goesBefore}
 
 -- where i goes before j, j doesn't go before i; where i goes before k, any third j comes after i or before k
 pub record Order (before : ℕ → ℕ → Bool) : Type 0 where
