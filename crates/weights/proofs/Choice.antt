@@ -1,5 +1,5 @@
 -- The policy that counts: what one more policy changes, how heavy it is, and what it depends on.
-use Prim.Native.Nat.{ℕ, _+_, _*_, _<_, _≤_}
+use Prim.Native.Nat.{ℕ, _+_, _*_, _/_, _^_, _<_, _≤_}
 use mathlib.Core.Bool.{Bool, true, false, _&&_, cond, and-false}
 use mathlib.Core.Path.{_≡_, refl, sym, ap, ap₂, _∙_}
 use mathlib.Core.Logic.{⊎-elim}
@@ -10,6 +10,8 @@ use borrow.Author.Tests.{eqb-true, eqb-false, eq-eqb, ne-eqb, lt-ltb, le-ltb, lt
 use lib.ListN.{length, getD, set, replicate, getD-replicate}
 use lib.Seq.{getD-set-same, getD-set-other}
 use lib.Dec.{ltb, eqb}
+use mir.Val.{Fits}
+use mir.Syntax.{w64}
 use Rattle.folds.specs.Below.{anyBelow, firstBelow}
 use Rattle.folds.proofs.Bools.{met-or-not}
 use Rattle.folds.proofs.Tests.{any-each, any-same, first-lt, first-more, first-none, first-same}
@@ -118,6 +120,27 @@ joined true true w = refl
 joined true false w = refl
 joined false t w = refl
 
+-- the places of a policy's bytes, of plain numbers
+module _ {n i : ℕ} (more : i < n / 8) where
+  pub inside : 8 * i < n
+  inside = omega arith
+
+  pub inside-at : (d : ℕ) → d < 8 → 8 * i + d < n
+  inside-at d h = omega arith
+
+  pub fits-at : n < 2 ^ 64 → (d : ℕ) → d < 8 → Fits w64 (8 * i + d)
+  fits-at fits d h = omega arith
+
+-- a policy that isn't active, or whose type doesn't pass, is no candidate of any role and permission
+pub off-context : (inForce f : ℕ → Bool) (a : List ℕ) (i : ℕ) → inForce (policyContext a i) ≡ false → (r p : ℕ) →
+    candidate inForce f a r p i ≡ false
+off-context inForce f a i off r p =
+    rw (off, and-false (f (policyType a i)), and-false (eqb (policyRole a i) r && eqb (policyPermission a i) p))
+
+pub off-type : (inForce f : ℕ → Bool) (a : List ℕ) (i : ℕ) → f (policyType a i) ≡ false → (r p : ℕ) →
+    candidate inForce f a r p i ≡ false
+off-type inForce f a i off r p = rw (off, and-false (eqb (policyRole a i) r && eqb (policyPermission a i) p))
+
 module _ (inForce f : ℕ → Bool) (a : List ℕ) where
   -- before the first policy nothing counts
   pub placed-none : (v : List ℕ) → ((i : ℕ) → i < 128 → getD v i 0 ≡ 0) → Placed (chosenWeight [] inForce f a 0) v
@@ -133,12 +156,10 @@ module _ (inForce f : ℕ → Bool) (a : List ℕ) where
         Placed (chosenWeight [] inForce f a i) v → Placed (chosenWeight [] inForce f a (i + 1)) v
     placed-same off was = record { place = λ r p l m. was .place r p l m ∙ same r p }
       where
-        none : (r p : ℕ) → candidate inForce f a r p i ≡ false
-        none r p =
-            rw (off, and-false (f (policyType a i)), and-false (eqb (policyRole a i) r && eqb (policyPermission a i) p))
-
         same : (r p : ℕ) → chosenWeight [] inForce f a i r p ≡ chosenWeight [] inForce f a (i + 1) r p
-        same r p = or-zero (chosenWeight [] inForce f a i r p) ∙ sym (chosen-more inForce f a r p i pos ∙ rw (none r p))
+        same r p =
+            or-zero (chosenWeight [] inForce f a i r p)
+            ∙ sym (chosen-more inForce f a r p i pos ∙ rw (off-context inForce f a i off r p))
 
     -- an active policy counts at its place k, where its type passes and none counted before
     pub placed-more : {v : List ℕ} {k x y : ℕ} → inForce (policyContext a i) ≡ true → policyRole a i < 8 →

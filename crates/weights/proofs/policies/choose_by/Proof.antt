@@ -4,19 +4,20 @@ use native.Mathlib.Omega.{arith}
 use borrow.Author.Needs.{needs}
 use borrow.Author.Tests.{eq-eqb, ne-eqb}
 use Prim.Native.Nat.{ℕ, _+_, _-_, _*_, _/_, _^_, _≤_, _<_}
-use mathlib.Core.Bool.{Bool, true, false, _&&_, cond, and-false}
+use mathlib.Core.Bool.{true, false, cond}
 use mathlib.Core.Path.{_≡_, refl, sym, _∙_}
 use mathlib.Core.Logic.{inl, inr}
 use mathlib.Core.List.{List}
-use lib.Dec.{eqb, lit<}
+use lib.Dec.{lit<}
 use lib.ListN.{length, getD, set}
 use mir.Val.{Fits}
 use mir.Syntax.{w64}
 use Rattle.reader.specs.Fields.{policyRole, policyPermission, policyWeight, policyType, policyContext}
 use Rattle.reader.specs.Rules.{policiesBad}
 use Rattle.reader.proofs.Accepted.{PolicyFine, policy-fine}
-use Rattle.weights.specs.Weights.{anyType, typeOne, candidate}
+use Rattle.weights.specs.Weights.{anyType, typeOne}
 use Rattle.weights.specs.Setting.{inForceBy, takenUp, AreChosen}
+use Rattle.weights.proofs.Choice.{inside, inside-at, fits-at, off-context, off-type}
 use Rattle.weights.proofs.Resolving.{Keeps, keeps-none, keeps-same, keeps-more, keeps-placed, kept-below}
 use Rattle.weights.proofs.policies.choose_by.Statement.{statement}
 use Rattle.weights.proofs.policies.choose_by.Tie as tie
@@ -34,27 +35,6 @@ Inv-loop a contexts list own₀ inh₀ own-kept₀ inh-kept₀ i₀ i-end own in
 abbrev μ-loop : tie.MeasureT-loop
 μ-loop a contexts list own₀ inh₀ own-kept₀ inh-kept₀ i₀ i-end own inh own-kept inh-kept i = length a / 8 - i
 
--- the places of a policy's bytes, of plain numbers
-module _ {n i : ℕ} (more : i < n / 8) where
-  inside : 8 * i < n
-  inside = omega arith
-
-  inside-at : (d : ℕ) → d < 8 → 8 * i + d < n
-  inside-at d h = omega arith
-
-  fits-at : n < 2 ^ 64 → (d : ℕ) → d < 8 → Fits w64 (8 * i + d)
-  fits-at fits d h = omega arith
-
--- a policy that isn't active, or whose type doesn't pass, is no candidate of any role and permission
-off-any : (inForce f : ℕ → Bool) (a : List ℕ) (i : ℕ) → inForce (policyContext a i) ≡ false → (r p : ℕ) →
-    candidate inForce f a r p i ≡ false
-off-any inForce f a i off r p =
-    rw (off, and-false (f (policyType a i)), and-false (eqb (policyRole a i) r && eqb (policyPermission a i) p))
-
-off-type : (inForce f : ℕ → Bool) (a : List ℕ) (i : ℕ) → f (policyType a i) ≡ false → (r p : ℕ) →
-    candidate inForce f a r p i ≡ false
-off-type inForce f a i off r p = rw (off, and-false (eqb (policyRole a i) r && eqb (policyPermission a i) p))
-
 -- one turn, of plain values
 module _ {rules : List ℕ} {s : ℕ} {a own-kept inh-kept own inh : List ℕ} {i : ℕ}
     (turn : Turn rules s a own-kept inh-kept own inh i) (ok : policiesBad 8 16 a ≡ false) (l : i < length a / 8) where
@@ -68,8 +48,8 @@ module _ {rules : List ℕ} {s : ℕ} {a own-kept inh-kept own inh : List ℕ} {
   skipped : inForceBy s (policyContext a i) ≡ false → Turn rules s a own-kept inh-kept own inh (i + 1)
   skipped off = record {
     within = omega arith;
-    any = keeps-same rules (inForceBy s) anyType a (off-any (inForceBy s) anyType a i off) (turn .any);
-    one = keeps-same rules (inForceBy s) typeOne a (off-any (inForceBy s) typeOne a i off) (turn .one);
+    any = keeps-same rules (inForceBy s) anyType a (off-context (inForceBy s) anyType a i off) (turn .any);
+    one = keeps-same rules (inForceBy s) typeOne a (off-context (inForceBy s) typeOne a i off) (turn .one);
   }
 
   -- it is active; k is its place

@@ -16,7 +16,7 @@ use Rattle.reader.specs.Rules.{policiesBad}
 use Rattle.reader.proofs.Accepted.{PolicyFine, policy-fine}
 use Rattle.weights.specs.Weights.{anyType, typeOne}
 use Rattle.weights.specs.Setting.{inForceBy, firstOf, AreChosen}
-use Rattle.weights.proofs.Choice.{placed-none, placed-same, placed-more}
+use Rattle.weights.proofs.Choice.{inside, inside-at, fits-at, placed-none, placed-same, placed-more}
 use Rattle.weights.proofs.policies.choose_first.Statement.{statement}
 use Rattle.weights.proofs.policies.choose_first.Tie as tie
 
@@ -32,17 +32,6 @@ Inv-loop a contexts own₀ inh₀ i₀ i-end own inh i = Turn contexts a own inh
 
 abbrev μ-loop : tie.MeasureT-loop
 μ-loop a contexts own₀ inh₀ i₀ i-end own inh i = length a / 8 - i
-
--- the places of a policy's bytes, of plain numbers
-module _ {n i : ℕ} (more : i < n / 8) where
-  inside : 8 * i < n
-  inside = omega arith
-
-  inside-at : (d : ℕ) → d < 8 → 8 * i + d < n
-  inside-at d h = omega arith
-
-  fits-at : n < 2 ^ 64 → (d : ℕ) → d < 8 → Fits w64 (8 * i + d)
-  fits-at fits d h = omega arith
 
 -- one turn, of plain values
 module _ {s : ℕ} {a own inh : List ℕ} {i : ℕ} (turn : Turn s a own inh i) (ok : policiesBad 8 16 a ≡ false)
