@@ -57,6 +57,16 @@ fn agreed(base: &[u8], list: List, asked: &Asked) -> u8 {
     by_model
 }
 
+/// Sums that tell a weight: the answer to one entry of that weight where the sum
+/// has to be this number. It is granted at the weight, and not at one more or
+/// less; a role without weight is told by 16.
+pub fn sums_that_tell(weight: u8) -> Vec<(u8, u8)> {
+    if weight == 0 {
+        return vec![(0, 16)];
+    }
+    vec![(weight - 1, 17), (weight, 0), (weight + 1, 17)]
+}
+
 /// Asserts that all three give this answer.
 pub fn expect_decision(base: &[u8], asked: &Asked, answer: u8) {
     expect(base, None, asked, answer);

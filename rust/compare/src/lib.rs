@@ -30,6 +30,7 @@ use model::Context;
 
 pub use decisions::{
     agreed_decision, agreed_decision_by, expect_decision, expect_decision_by, library_decision,
+    sums_that_tell,
 };
 pub use reports::{
     agreed_report, agreed_report_by, expect_report, expect_report_by, expect_report_by_refused,

@@ -1,9 +1,9 @@
 //! Bases that the edges start from, and how to ask about them.
 
 use compare::builder::*;
-use compare::expect_decision;
 use compare::questions::{at_minute, Asked};
 use compare::shop::small_shop;
+use compare::{expect_decision, sums_that_tell};
 
 /// The parameter of a user who holds all of so many roles.
 pub fn all_roles(roles: u8) -> User {
@@ -72,16 +72,9 @@ pub fn expect_weights(minute: u32, base: &BaseBuilder, weights: &[u8]) {
     let mut base = base.clone();
     base.users = vec![all_roles(base.roles)];
     for (role, &weight) in (0..).zip(weights) {
-        let mut expect_sum = |sum, answer| {
+        for (sum, answer) in sums_that_tell(weight) {
             base.group_clauses = vec![GroupClause::new(0, &[(1, 4, sum)])];
             expect_at(minute, &base, &[[0, role]], answer);
-        };
-        if weight == 0 {
-            expect_sum(0, 16);
-        } else {
-            expect_sum(weight - 1, 17);
-            expect_sum(weight, 0);
-            expect_sum(weight + 1, 17);
         }
     }
 }

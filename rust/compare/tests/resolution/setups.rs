@@ -1,8 +1,8 @@
 //! Bases that the edges start from, and how to ask about them.
 
 use compare::builder::*;
-use compare::expect_decision_by;
 use compare::questions::{at_minute, Asked};
+use compare::{expect_decision_by, sums_that_tell};
 
 /// A policy of role 2 for permission 0, of type 0 and in every context.
 pub fn issued(issue_day: u16, rank: u8, weight: u8) -> Policy {
@@ -49,17 +49,10 @@ pub fn with_policies(policies: &[Policy]) -> BaseBuilder {
 pub fn expect_weights_at(minute: u32, base: &BaseBuilder, list: &[u8], weights: [u8; 3]) {
     let mut base = base.clone();
     for (role, weight) in (0..).zip(weights) {
-        let mut expect_sum = |sum, answer| {
+        for (sum, answer) in sums_that_tell(weight) {
             base.group_clauses = vec![GroupClause::new(0, &[(1, 4, sum)])];
             let asked = Asked::new(0, at_minute(minute), &[[0, role]]);
             expect_decision_by(&base.bytes(), list, &asked, answer);
-        };
-        if weight == 0 {
-            expect_sum(0, 16);
-        } else {
-            expect_sum(weight - 1, 17);
-            expect_sum(weight, 0);
-            expect_sum(weight + 1, 17);
         }
     }
 }
