@@ -9,7 +9,7 @@ ghost use Rattle.report.specs.Demand.{Demanded, DemandedLent};
 ghost use Rattle.conflicts.specs.Conflicts.{conflictAnswer, conflictBytes};
 ghost use Rattle.exports.specs.Packed.{packed, unpacked};
 ghost use Rattle.decision.specs.Decision.{decisionOf, decisionLent};
-ghost use Rattle.sheet.specs.Sheets.{opened, signed, asked};
+ghost use Rattle.sheet.specs.Sheets.{opened, signed, withdrawn, asked};
 ghost use Rattle.sheet.specs.Form.{bytesOf, sheetOf};
 ghost use Rattle.shift.specs.Shift.{boundAnswer};
 
@@ -145,6 +145,25 @@ pub extern "C" fn release_sheet_sign(base: &[u8], user: u32, role: u32, sheet: &
 {
     let s = sheet::form::read(sheet);
     let outcome = sheet::sign(base, s, user, role);
+    if outcome.refusal != 0 {
+        return outcome.refusal as u32;
+    }
+    let given = outcome.sheet;
+    sheet::form::write(given, sheet);
+    0
+}
+
+// Withdrawing a user from a sheet: 0, and the sheet without the user's entries, or 23 where the user has none on it,
+// and no byte changed. No base is consulted.
+#[no_mangle]
+pub extern "C" fn release_sheet_withdraw(user: u32, sheet: &mut [u8; 14]) -> u32
+    ensures outcome { λ r. ⌜
+        (r ≡ withdrawn (sheetOf (now (sheet .entry))) user .refusal) ×
+        (now (sheet .exit) ≡ bytesOf (withdrawn (sheetOf (now (sheet .entry))) user .sheet)) ⌝ }
+    ensures kept { λ r. ⌜ ((r ≡ 0 → ⊥) → now (sheet .exit) ≡ now (sheet .entry)) ⌝ }
+{
+    let s = sheet::form::read(sheet);
+    let outcome = sheet::withdraw(s, user);
     if outcome.refusal != 0 {
         return outcome.refusal as u32;
     }

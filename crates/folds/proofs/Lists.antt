@@ -1,8 +1,8 @@
 -- Laws of lists joined below n, of stores into a list, and of lists of one number alone.
 use Prim.Native.Nat.{ℕ, zero, suc, _+_, _-_, _<_, _≤_}
-use mathlib.Core.Path.{_≡_, refl, ap, _∙_}
+use mathlib.Core.Path.{_≡_, refl, sym, ap, _∙_}
 use mathlib.Core.Logic.{⊎-elim}
-use mathlib.Core.List.{List, [], _∷_, _++_, append-nil}
+use mathlib.Core.List.{List, [], _∷_, _++_, append-nil, append-assoc}
 use native.Mathlib.Numerals.{add-one}
 use native.Mathlib.Nat.{add-zero, eq-or-lt-of-le, le-of-suc-le-suc}
 use native.Mathlib.Omega.{arith}
@@ -21,6 +21,14 @@ module _ (f : ℕ → List ℕ) where
   pub join-more : (n : ℕ) → joinBelow (n + 1) f ≡ joinBelow n f ++ f n
   unfolding joinBelow
   join-more n = rw add-one
+
+  -- the first in front of the others
+  pub join-first : (n : ℕ) → joinBelow (suc n) f ≡ f 0 ++ joinBelow n (λ i. f (suc i))
+  unfolding joinBelow
+  join-first zero = sym (append-nil (f 0))
+  join-first (suc n) =
+      ap (λ (l : List ℕ). l ++ f (suc n)) (join-first n)
+      ∙ append-assoc (f 0) (joinBelow n (λ i. f (suc i))) (f (suc n))
 
   -- empty lists from m on add nothing
   pub join-tail : (m n : ℕ) → m ≤ n → ((i : ℕ) → m ≤ i → i < n → f i ≡ []) → joinBelow n f ≡ joinBelow m f

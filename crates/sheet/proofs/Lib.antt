@@ -1,7 +1,12 @@
 pub mod Accepting
 pub mod Asking
 pub mod Bytes
+pub mod Choosing
+pub mod Happening
 pub mod Holding
 pub mod Making
 pub mod Passing
 pub mod Standing
+pub mod Staying
+pub mod TakingBack
+pub mod Withdrawing

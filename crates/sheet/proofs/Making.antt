@@ -1,12 +1,12 @@
--- The laws of the sheets that calls made.
+-- The laws of new sheets and of the sheets that calls made.
 use Prim.Native.Nat.{ℕ, _+_, _*_, _-_, _≤_}
 use mathlib.Core.Bool.{true}
 use mathlib.Core.Path.{_≡_, refl, sym, ap, _∙_}
 use mathlib.Core.Logic.{_↔_}
-use mathlib.Core.List.{List, [], _∷_, _++_}
+use mathlib.Core.List.{List, [], _∷_, _++_, map}
 use native.Mathlib.Omega.{arith}
 use borrow.Author.Tests.{eqb-true, eq-eqb, ne-eqb}
-use lib.ListN.{length, getD, length-append, replicate, length-replicate}
+use lib.ListN.{length, getD, replicate}
 use lib.Seq.{getD-append-add}
 use lib.Dec.{eqb}
 use Rattle.folds.proofs.Lists.{zero-at}
@@ -14,12 +14,24 @@ use Rattle.weights.specs.declared.Context.{Context}
 use Rattle.decision.specs.Groups.{entryCount}
 use Rattle.decision.specs.Decision.{decisionOf}
 use Rattle.sheet.specs.declared.Sheet.{Sheet}
-use Rattle.sheet.specs.Sheets.{heldOn, openRefusal, openedFor, opened, signed, asked}
-use Rattle.sheet.specs.Signings.{Signing, acceptable, accepted, entriesOf, sheetWith, afterAll, answeredDone}
-use Rattle.sheet.specs.Signings.{Made, Orderly}
+use Rattle.sheet.specs.Sheets.{heldOn, holding, openRefusal, openedFor, opened, signed, withdrawn, asked}
+use Rattle.sheet.specs.Signings.{Signing, accepted, entriesOf, sheetWith}
+use Rattle.sheet.specs.Events.{Event, signs, withdraws, standing, signatures, heldAfter, isDone, called, afterAll}
+use Rattle.sheet.specs.Events.{answeredDone, Made, Orderly}
 use Rattle.sheet.specs.Form.{bytesOf, bytesAfterAll}
+use Rattle.sheet.proofs.Holding.{holding-count, holding-size}
 use Rattle.sheet.proofs.Standing.{entries-length, entries-count, held-with}
-use Rattle.sheet.proofs.Accepting.{done-acceptable, all-held, all-done, all-few, all-differ, Differ}
+use Rattle.sheet.proofs.Choosing.{distinct-differ}
+use Rattle.sheet.proofs.Happening.{Fine, signingOf, one-done, all-fine, all-held, all-done}
+use Rattle.sheet.proofs.Happening.{accepted-stand, accepted-done}
+
+nothing-fine : Fine (standing [])
+unfolding standing
+nothing-fine = record { few = omega arith; distinct = tt }
+
+-- what a new sheet holds after a list of events is at most six signings, of different users
+pub held-fine : (es : List Event) → Fine (heldAfter es)
+held-fine es = all-fine es [] nothing-fine
 
 -- a new sheet is for the permission asked for where the opening is done, else for permission 255; it holds nothing
 module _ (b : List ℕ) (p : ℕ) where
@@ -31,116 +43,119 @@ module _ (b : List ℕ) (p : ℕ) where
   unfolding openedFor
   opened-refused h = rw (ne-eqb (openRefusal b p) 0 h)
 
-  pub opened-new : opened b p .sheet ≡ sheetWith (openedFor b p) []
-  unfolding sheetWith entriesOf
+  pub opened-new : opened b p .sheet ≡ sheetWith (openedFor b p) (standing [])
+  unfolding standing entriesOf holding
   opened-new = refl
 
+  module _ (es : List Event) where
+    -- over every list of signings and withdrawals on a new sheet, it holds each accepted signature not withdrawn since,
+    -- in order of acceptance, and its unused bytes are 0
+    pub sheet-held : afterAll (opened b p .sheet) es ≡ sheetWith (openedFor b p) (heldAfter es)
+    sheet-held = ap (λ (s : Sheet). afterAll s es) opened-new ∙ all-held (openedFor b p) es [] nothing-fine
+
+    pub entries-held : heldOn (afterAll (opened b p .sheet) es) ≡ entriesOf (heldAfter es)
+    entries-held = ap heldOn sheet-held ∙ held-with (openedFor b p) (heldAfter es) (held-fine es .few)
+
+    -- the signings to which the calls answer 0 are the accepted ones
+    pub done-signatures : answeredDone (opened b p .sheet) es ≡ map signingOf (signatures es)
+    done-signatures = ap (λ (s : Sheet). answeredDone s es) opened-new ∙ all-done (openedFor b p) es [] nothing-fine
+
+    -- to the next event the call answers 0 exactly if a signing is accepted, or a withdrawal finds its user's signature
+    pub next-done : (e : Event) →
+        (called (afterAll (opened b p .sheet) es) e .refusal ≡ 0) ↔ (isDone (heldAfter es) e ≡ true)
+    next-done e =
+        let is : eqb (called (afterAll (opened b p .sheet) es) e .refusal) 0 ≡ isDone (heldAfter es) e =
+        ap (λ (s : Sheet). eqb (called s e .refusal) 0) sheet-held
+        ∙ one-done (openedFor b p) (signatures es) (held-fine es) e in
+        (λ h. sym is ∙ eq-eqb _ _ h, λ h. eqb-true _ _ (is ∙ h))
+
+  -- request One's: after every list of signings alone it holds exactly the accepted ones, to which `sign` answers 0
   module _ (xs : List Signing) where
-    few : length (accepted xs) ≤ 6
-    few = all-few xs [] (omega arith)
+    pub sheet-accepted : afterAll (opened b p .sheet) (map signs xs) ≡ sheetWith (openedFor b p) (accepted xs)
+    sheet-accepted = sheet-held (map signs xs) ∙ ap (sheetWith (openedFor b p)) (accepted-stand xs)
 
-    -- after every list of signings on a new sheet, it holds exactly the accepted ones, and its unused bytes are 0
-    pub sheet-accepted : afterAll (opened b p .sheet) xs ≡ sheetWith (openedFor b p) (accepted xs)
-    sheet-accepted = ap (λ (s : Sheet). afterAll s xs) opened-new ∙ all-held (openedFor b p) xs [] (omega arith)
-
-    pub held-accepted : heldOn (afterAll (opened b p .sheet) xs) ≡ entriesOf (accepted xs)
-    held-accepted = ap heldOn sheet-accepted ∙ held-with (openedFor b p) (accepted xs) few
-
-    -- `sign` answers 0 exactly to those
-    pub done-accepted : answeredDone (opened b p .sheet) xs ≡ accepted xs
-    done-accepted = ap (λ (s : Sheet). answeredDone s xs) opened-new ∙ all-done (openedFor b p) xs [] (omega arith)
-
-    -- and to the next one exactly if it is accepted after them
-    pub next-done : (x : Signing) →
-        (signed (x .base) (afterAll (opened b p .sheet) xs) (x .user) (x .role) .refusal ≡ 0) ↔
-        (acceptable (accepted xs) x ≡ true)
-    next-done x =
-        let last : Sheet = afterAll (opened b p .sheet) xs in
-        let e : eqb (signed (x .base) last (x .user) (x .role) .refusal) 0 ≡ acceptable (accepted xs) x =
-        ap (λ (s : Sheet). eqb (signed (x .base) s (x .user) (x .role) .refusal) 0) sheet-accepted
-        ∙ done-acceptable (openedFor b p) (accepted xs) x few in
-        (λ h. sym e ∙ eq-eqb _ _ h, λ h. eqb-true _ _ (e ∙ h))
+    pub done-accepted : answeredDone (opened b p .sheet) (map signs xs) ≡ accepted xs
+    done-accepted = done-signatures (map signs xs) ∙ accepted-done xs
 
 -- each call makes such a sheet
 pub made-open : (b : List ℕ) (p : ℕ) → Made (opened b p .sheet)
 unfolding afterAll
-made-open b p = record { base = b; permission = p; signings = []; is = refl }
+made-open b p = record { base = b; permission = p; events = []; is = refl }
 
-after-more : (s : Sheet) (xs : List Signing) (x : Signing) →
-    afterAll s (xs ++ (x ∷ [])) ≡ signed (x .base) (afterAll s xs) (x .user) (x .role) .sheet
+after-more : (s : Sheet) (es : List Event) (e : Event) → afterAll s (es ++ (e ∷ [])) ≡ called (afterAll s es) e .sheet
 unfolding afterAll
-after-more s [] x = refl
-after-more s (y ∷ xs) x = after-more (signed (y .base) s (y .user) (y .role) .sheet) xs x
+after-more s [] e = refl
+after-more s (d ∷ es) e = after-more (called s d .sheet) es e
 
-pub made-sign : (s : Sheet) → Made s → (b : List ℕ) (u r : ℕ) → Made (signed b s u r .sheet)
-made-sign s m b u r =
-    let x : Signing = record { base = b; user = u; role = r } in
+made-called : (s : Sheet) → Made s → (e : Event) → Made (called s e .sheet)
+made-called s m e =
     record {
       base = m .base;
       permission = m .permission;
-      signings = m .signings ++ (x ∷ []);
+      events = m .events ++ (e ∷ []);
       is =
-          ap (λ (t : Sheet). signed b t u r .sheet) (m .is)
-          ∙ sym (after-more (opened (m .base) (m .permission) .sheet) (m .signings) x);
+          ap (λ (t : Sheet). called t e .sheet) (m .is)
+          ∙ sym (after-more (opened (m .base) (m .permission) .sheet) (m .events) e);
     }
+
+pub made-sign : (s : Sheet) → Made s → (b : List ℕ) (u r : ℕ) → Made (signed b s u r .sheet)
+unfolding called
+made-sign s m b u r = made-called s m (signs (record { base = b; user = u; role = r }))
+
+pub made-withdraw : (s : Sheet) → Made s → (u : ℕ) → Made (withdrawn s u .sheet)
+unfolding called
+made-withdraw s m u = made-called s m (withdraws u)
+
+-- a made sheet holds what stands after the events that made it
+module _ {s : Sheet} (m : Made s) where
+  abbrev pub heldOf : List Signing
+  heldOf = heldAfter (m .events)
+
+  pub made-is : s ≡ sheetWith (openedFor (m .base) (m .permission)) heldOf
+  made-is = m .is ∙ sheet-held (m .base) (m .permission) (m .events)
 
 -- a sheet that holds at most six signings of different users is orderly
 with-clear : (p : ℕ) (xs : List Signing) (i : ℕ) → 2 * length xs ≤ i → getD (sheetWith p xs .entries) i 0 ≡ 0
-unfolding sheetWith
+unfolding holding
 with-clear p xs i h =
-    let n = 12 - 2 * length xs in
+    let n = 12 - length (entriesOf xs) in
     let size = entries-length xs in
     let j : i ≡ length (entriesOf xs) + (i - 2 * length xs) = omega (arith, size, h) in
     rw j (getD-append-add (entriesOf xs) (replicate n 0) (i - 2 * length xs) 0 ∙ zero-at n (i - 2 * length xs))
 
-with-size : (p : ℕ) (xs : List Signing) → length xs ≤ 6 → length (sheetWith p xs .entries) ≡ 12
-unfolding sheetWith
-with-size p xs few =
-    let zeros : List ℕ = replicate (12 - 2 * length xs) 0 in
-    let n : length zeros ≡ 12 - 2 * length xs = length-replicate _ 0 in
-    length-append (entriesOf xs) zeros ∙ omega (arith, n, entries-length xs)
-
-with-orderly : (p : ℕ) (xs : List Signing) → length xs ≤ 6 → Differ (entriesOf xs) → Orderly (sheetWith p xs)
-unfolding sheetWith
-with-orderly p xs few differ =
-    let held = held-with p xs few in
+with-orderly : (p : ℕ) (xs : List Signing) → Fine xs → Orderly (sheetWith p xs)
+with-orderly p xs fine =
+    let held = held-with p xs (fine .few) in
+    let count = holding-count p (entriesOf xs) (length xs) (entries-length xs) in
     record {
-      size = with-size p xs few;
-      few = few;
-      counted = ap entryCount held ∙ entries-count xs;
-      different = λ i j l m e. differ i j l (rw (entries-count xs) m) (rw (← held) e);
-      clear = with-clear p xs;
+      size = holding-size p (entriesOf xs) (length xs) (entries-length xs) (fine .few);
+      few = rw count (fine .few);
+      counted = ap entryCount held ∙ entries-count xs ∙ sym count;
+      different = λ i j l k e.
+          distinct-differ xs (fine .distinct) i j l (rw (entries-count xs) (rw count at k)) (rw held at e);
+      clear = λ i h. with-clear p xs i (rw count at h);
     }
-
-none-differ : Differ (entriesOf [])
-unfolding entriesOf
-none-differ i j l k e = omega arith
 
 -- a made sheet holds at most six entries, of different users; its count is their number and its unused bytes are 0
 pub made-orderly : (s : Sheet) → Made s → Orderly s
-made-orderly s m =
-    let is = m .is ∙ sheet-accepted (m .base) (m .permission) (m .signings) in
-    let few = all-few (m .signings) [] (omega arith) in
-    let differ = all-differ (m .signings) [] none-differ in
-    rw is (with-orderly _ (accepted (m .signings)) few differ)
+made-orderly s m = rw (made-is m) (with-orderly _ (heldOf m) (held-fine (m .events)))
 
--- asking a made sheet is the decision for the accepted signatures, in order of acceptance
+-- asking a made sheet is the decision for the accepted signatures not withdrawn since, in order of acceptance
 pub made-asked : (s : Sheet) (m : Made s) (b : List ℕ) (at : Context) →
-    asked b s at ≡ decisionOf b at (openedFor (m .base) (m .permission)) (entriesOf (accepted (m .signings)))
-unfolding sheetWith
+    asked b s at ≡ decisionOf b at (openedFor (m .base) (m .permission)) (entriesOf (heldOf m))
+unfolding holding
 made-asked s m b at =
-    let held = ap heldOn (m .is) ∙ held-accepted (m .base) (m .permission) (m .signings) in
-    let is = m .is ∙ sheet-accepted (m .base) (m .permission) (m .signings) in
-    let permission = ap (λ (t : Sheet). t .permission) is in
+    let held = ap heldOn (m .is) ∙ entries-held (m .base) (m .permission) (m .events) in
+    let permission = ap (λ (t : Sheet). t .permission) (made-is m) in
     ap (λ (g : List ℕ). decisionOf b at (s .permission) g) held
-    ∙ ap (λ (p : ℕ). decisionOf b at p (entriesOf (accepted (m .signings)))) permission
+    ∙ ap (λ (p : ℕ). decisionOf b at p (entriesOf (heldOf m))) permission
 
 -- the same of the 14 bytes
-bytes-after : (s : Sheet) (xs : List Signing) → bytesAfterAll (bytesOf s) xs ≡ bytesOf (afterAll s xs)
+bytes-after : (s : Sheet) (es : List Event) → bytesAfterAll (bytesOf s) es ≡ bytesOf (afterAll s es)
 unfolding bytesAfterAll afterAll
 bytes-after s [] = refl
-bytes-after s (x ∷ xs) = bytes-after (signed (x .base) s (x .user) (x .role) .sheet) xs
+bytes-after s (e ∷ es) = bytes-after (called s e .sheet) es
 
-pub bytes-accepted : (b : List ℕ) (p : ℕ) (xs : List Signing) →
-    bytesAfterAll (bytesOf (opened b p .sheet)) xs ≡ bytesOf (sheetWith (openedFor b p) (accepted xs))
-bytes-accepted b p xs = bytes-after (opened b p .sheet) xs ∙ ap bytesOf (sheet-accepted b p xs)
+pub bytes-held : (b : List ℕ) (p : ℕ) (es : List Event) →
+    bytesAfterAll (bytesOf (opened b p .sheet)) es ≡ bytesOf (sheetWith (openedFor b p) (heldAfter es))
+bytes-held b p es = bytes-after (opened b p .sheet) es ∙ ap bytesOf (sheet-held b p es)

@@ -1,19 +1,18 @@
 -- The bytes of a list of signings, and the sheet that holds them.
-use Prim.Native.Nat.{ℕ, zero, suc, _+_, _*_, _-_, _<_, _≤_}
+use Prim.Native.Nat.{ℕ, zero, suc, _*_, _<_, _≤_}
 use mathlib.Core.Bool.{Bool, false}
 use mathlib.Core.Path.{_≡_, refl, sym, ap, _∙_}
 use mathlib.Core.List.{List, [], _∷_, _++_}
 use native.Mathlib.Omega.{arith}
-use borrow.Author.Tests.{le-ltb}
-use lib.ListN.{length, take, drop, length-append, replicate, length-replicate}
-use lib.Seq.{sets, sets-eq, take-at, drop-append-add}
+use lib.ListN.{length}
 use lib.Dec.{eqb}
 use Rattle.folds.proofs.Bools.{or-left, or-right, or-neither, same-failure}
 use Rattle.folds.proofs.Tests.{any-at, any-each}
-use Rattle.folds.proofs.Lists.{drop-replicate}
 use Rattle.decision.specs.Groups.{entryCount, entryUser}
-use Rattle.sheet.specs.Sheets.{heldOn, standsIn, withEntry}
+use Rattle.sheet.specs.Sheets.{heldOn, standsIn, holding, withEntry}
 use Rattle.sheet.specs.Signings.{Signing, signedBy, entriesOf, sheetWith}
+use Rattle.sheet.proofs.Holding.{holding-held, holding-more}
+use Rattle.sheet.proofs.Staying.{later-user}
 
 -- the entries' bytes of a list of signings
 pub entries-length : (xs : List Signing) → length (entriesOf xs) ≡ 2 * length xs
@@ -30,8 +29,15 @@ entries-more (y ∷ xs) x = ap (λ (l : List ℕ). y .user ∷ y .role ∷ l) (e
 pub entries-count : (xs : List Signing) → entryCount (entriesOf xs) ≡ length xs
 entries-count xs = let e = entries-length xs in omega arith
 
-later-user : (u r : ℕ) (l : List ℕ) (i : ℕ) → entryUser (u ∷ r ∷ l) (suc i) ≡ entryUser l i
-later-user u r l i = let e : 2 * suc i ≡ suc (suc (2 * i)) = omega arith in rw e
+-- where none of a list is by user u, neither the first is nor any behind it
+module _ (x : Signing) (xs : List Signing) (u : ℕ) (h : signedBy (x ∷ xs) u ≡ false) where
+  pub first-differs : eqb (x .user) u ≡ false
+  unfolding signedBy
+  first-differs = or-left (eqb (x .user) u) _ h
+
+  pub later-unsigned : signedBy xs u ≡ false
+  unfolding signedBy
+  later-unsigned = or-right (eqb (x .user) u) _ h
 
 -- a user stands in the entries exactly if one of the signings is by that user
 none-signed : (xs : List Signing) (u : ℕ) →
@@ -46,10 +52,10 @@ pub each-differs : (xs : List Signing) (u : ℕ) → signedBy xs u ≡ false →
     (i : ℕ) → i < length xs → eqb (entryUser (entriesOf xs) i) u ≡ false
 unfolding entriesOf signedBy
 each-differs [] u h i l = absurd (omega arith)
-each-differs (x ∷ xs) u h zero l = or-left _ _ h
+each-differs (x ∷ xs) u h zero l = first-differs x xs u h
 each-differs (x ∷ xs) u h (suc i) l =
     rw (later-user (x .user) (x .role) (entriesOf xs) i)
-    (each-differs xs u (or-right (eqb (x .user) u) _ h) i (omega arith))
+    (each-differs xs u (later-unsigned x xs u h) i (omega arith))
 
 pub stands-signed : (xs : List Signing) (u : ℕ) → standsIn (entriesOf xs) u ≡ signedBy xs u
 unfolding standsIn
@@ -62,31 +68,11 @@ stands-signed xs u =
 
 -- such a sheet holds its signings' entries
 pub held-with : (p : ℕ) (xs : List Signing) → length xs ≤ 6 → heldOn (sheetWith p xs) ≡ entriesOf xs
-unfolding sheetWith
-held-with p xs few =
-    rw (le-ltb 6 (length xs) few) (take-at (entriesOf xs) (replicate (12 - 2 * length xs) 0) _ (entries-length xs))
+held-with p xs few = holding-held p (entriesOf xs) (length xs) (entries-length xs) few
 
--- an entry more in the room behind them
-abbrev zeros : ℕ → List ℕ
-zeros n = replicate n 0
-
-put-behind : (held : List ℕ) (n u r : ℕ) → length held ≡ 2 * n → n < 6 →
-    sets (held ++ zeros (12 - 2 * n)) (2 * n) (u ∷ r ∷ []) ≡ held ++ (u ∷ r ∷ []) ++ zeros (12 - 2 * (n + 1))
-put-behind held n u r size room =
-    let rest : List ℕ = zeros (12 - 2 * n) in
-    let all : List ℕ = held ++ rest in
-    let long = length-append held rest ∙ ap (λ (k : ℕ). length held + k) (length-replicate (12 - 2 * n) 0) in
-    let fits : 2 * n + 2 ≤ length all = omega (arith, long, size) in
-    let head : take (2 * n) all ≡ held = take-at held rest (2 * n) size in
-    let less : 12 - 2 * n - 2 ≡ 12 - 2 * (n + 1) = omega arith in
-    let tail : drop (2 * n + 2) all ≡ zeros (12 - 2 * (n + 1)) =
-    ap (λ (k : ℕ). drop (k + 2) all) (sym size) ∙ drop-append-add held rest 2 ∙ drop-replicate 0 2 (12 - 2 * n)
-    ∙ ap zeros less in
-    sets-eq (u ∷ r ∷ []) all (2 * n) fits ∙ rw (head, tail)
-
+-- one signing more
 pub with-more : (p : ℕ) (xs : List Signing) (x : Signing) → length xs < 6 →
     withEntry (sheetWith p xs) (x .user) (x .role) ≡ sheetWith p (xs ++ (x ∷ []))
-unfolding sheetWith
 with-more p xs x room =
-    let one : length (xs ++ (x ∷ [])) ≡ length xs + 1 = length-append xs (x ∷ []) in
-    rw (one, entries-more xs x, put-behind (entriesOf xs) (length xs) (x .user) (x .role) (entries-length xs) room)
+    holding-more p (entriesOf xs) (length xs) (entries-length xs) (x .user) (x .role) room
+    ∙ ap (holding p) (sym (entries-more xs x))

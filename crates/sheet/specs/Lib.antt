@@ -1,3 +1,4 @@
 pub mod Sheets
 pub mod Signings
+pub mod Events
 pub mod Form

@@ -1,16 +1,17 @@
--- A sheet that collects signatures for one permission: what it holds, and what opening, signing and asking give.
-use Prim.Native.Nat.{ℕ, _+_, _*_}
+-- A sheet that collects signatures for one permission: what it holds, and what opening, signing, withdrawing and asking
+-- give.
+use Prim.Native.Nat.{ℕ, _+_, _*_, _-_}
 use mathlib.Core.Bool.{Bool, not, cond}
-use mathlib.Core.List.{List, [], _∷_}
-use lib.ListN.{take, replicate}
+use mathlib.Core.List.{List, [], _∷_, _++_}
+use lib.ListN.{length, take, replicate}
 use lib.Seq.{sets}
 use lib.Dec.{ltb, eqb}
-use Rattle.folds.specs.Below.{anyBelow}
+use Rattle.folds.specs.Below.{anyBelow, joinBelow}
 use Rattle.reader.specs.Tables.{roleCount, permissionCount, userCount}
 use Rattle.reader.specs.Rules.{refusalOf}
 use Rattle.weights.specs.declared.Context.{Context}
 use Rattle.weights.specs.Acting.{mayAct}
-use Rattle.decision.specs.Groups.{entryCount, entryUser, unknown}
+use Rattle.decision.specs.Groups.{entryCount, entryUser, entryRole, unknown}
 use Rattle.decision.specs.Decision.{decisionOf}
 use Rattle.sheet.specs.declared.Sheet.{Sheet}
 use Rattle.sheet.specs.declared.Outcome.{Outcome}
@@ -41,7 +42,7 @@ openedFor b p = cond (eqb (openRefusal b p) 0) p 255
 abbrev pub opened : List ℕ → ℕ → Outcome
 opened b p = record { refusal = openRefusal b p; sheet = unsigned (openedFor b p) }
 
--- refusal 14 for a new entry: its user has one of the entries held
+-- user u has one of the entries held: refusal 14 for a new entry of that user; of a withdrawal, that 23 does not apply
 unfoldable pub standsIn : List ℕ → ℕ → Bool
 unfolding anyBelow
 standsIn held u = anyBelow (entryCount held) (λ i. eqb (entryUser held i) u)
@@ -72,6 +73,40 @@ unfolding signRefusal
 signed b s u r =
     let refusal = signRefusal b (heldOn s) u r in
     record { refusal = refusal; sheet = cond (eqb refusal 0) (withEntry s u r) s }
+
+-- the sheet for permission p that holds these entries: the count is their number, every byte behind them 0
+unfoldable pub holding : ℕ → List ℕ → Sheet
+holding p held =
+    record { permission = p; count = entryCount held; entries = held ++ replicate (12 - length held) 0 }
+
+-- those of the entries whose user and role stay, in their order
+unfoldable pub staying : (ℕ → ℕ → Bool) → List ℕ → List ℕ
+unfolding joinBelow
+staying stays held =
+    joinBelow (entryCount held)
+    (λ i.
+    let user = entryUser held i in
+    let role = entryRole held i in
+    cond (stays user role) (user ∷ role ∷ []) [])
+
+-- the entries of all users but u, in their order
+abbrev pub entriesWithout : ℕ → List ℕ → List ℕ
+entriesWithout u held = staying (λ user role. not (eqb user u)) held
+
+-- refusal 23 of a withdrawal of user u, or 0: the user has no entry on the sheet
+unfoldable pub withdrawRefusal : List ℕ → ℕ → ℕ
+unfolding standsIn
+withdrawRefusal held u = cond (standsIn held u) 0 23
+
+-- withdrawal: the sheet that holds the entries of all others; refused, the sheet as it was
+unfoldable pub withdrawn : Sheet → ℕ → Outcome
+unfolding withdrawRefusal holding
+withdrawn s u =
+    let refusal = withdrawRefusal (heldOn s) u in
+    record {
+      refusal = refusal;
+      sheet = cond (eqb refusal 0) (holding (s .permission) (entriesWithout u (heldOn s))) s;
+    }
 
 -- asking: the decision for the sheet's permission and the entries that it holds
 abbrev pub asked : List ℕ → Sheet → Context → ℕ

@@ -32,8 +32,8 @@ fn is_unknown(base: &[u8], user: u32, role: u32) -> bool
     reader::trailer::role_count(base) as u32 <= role
 }
 
-// Refusal 14 of a new entry.
-fn stands_in(held: &[u8], user: u32) -> bool
+// Inner: refusal 14 of a new entry; of a withdrawal, that 23 doesn't apply.
+pub fn stands_in(held: &[u8], user: u32) -> bool
     ensures { λ r. ⌜ r ≡ standsIn (now (held .entry)) user ⌝ }
 {
     for i in 0..held.len() / 2 {

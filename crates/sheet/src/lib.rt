@@ -1,8 +1,9 @@
-// A sheet that collects signatures for one permission: opened, signed one by one against a base, and asked.
+// A sheet that collects signatures for one permission: opened, signed one by one against a base, taken back, and asked.
 use weights::Context;
 ghost use mathlib.Core.Path.{_≡_};
 ghost use Prim.Native.Nat.{_<_};
 ghost use Rattle.sheet.specs.Sheets.{unsigned, opened, signed, asked, withEntry};
+ghost use Rattle.sheet.specs.Sheets.{heldOn, holding, entriesWithout, withdrawn};
 
 pub mod entries;
 pub mod form;
@@ -14,7 +15,7 @@ pub struct Sheet {
     pub entries: [u8; 12],
 }
 
-// What opening and signing answer, 0 or a refusal, and the sheet afterwards.
+// What opening, signing and withdrawing answer, 0 or a refusal, and the sheet afterwards.
 pub struct Outcome {
     pub refusal: u8,
     pub sheet: Sheet,
@@ -62,6 +63,20 @@ pub fn sign(base: &[u8], s: Sheet, user: u32, role: u32) -> Outcome
     }
 }
 
+// Entry point: the sheet without the user's entries; of refusal 23, the sheet as it was.
+pub fn withdraw(sheet: Sheet, user: u32) -> Outcome
+    ensures { λ r. ⌜ r ≡ withdrawn sheet user ⌝ }
+{
+    let claimed = sheet.entries;
+    if !entries::stands_in(entries::held(&claimed, sheet.count), user) {
+        return Outcome { refusal: 23, sheet };
+    }
+    Outcome {
+        refusal: 0,
+        sheet: without(sheet, user),
+    }
+}
+
 // Entry point: the decision for the sheet's permission and the entries that it holds.
 pub fn ask(base: &[u8], s: Sheet, at: Context) -> u8
     ensures { λ r. ⌜ r ≡ asked (now (base .entry)) s at ⌝ }
@@ -99,4 +114,24 @@ fn with_entry(s: Sheet, user: u8, role: u8) -> Sheet
         count: s.count + 1,
         entries,
     }
+}
+
+// The sheet with the entries of all others alone, in their order.
+fn without(s: Sheet, user: u32) -> Sheet
+    ensures { λ r. ⌜ r ≡ holding (s .permission) (entriesWithout user (heldOn s)) ⌝ }
+{
+    let claimed = s.entries;
+    let blank = [0; 12];
+    let mut left = Sheet {
+        permission: s.permission,
+        count: 0,
+        entries: blank,
+    };
+    let held = entries::held(&claimed, s.count);
+    for i in 0..held.len() / 2 {
+        if held[2 * i] as u32 != user {
+            left = with_entry(left, held[2 * i], held[2 * i + 1]);
+        }
+    }
+    left
 }
