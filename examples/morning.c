@@ -1,8 +1,9 @@
 /*
  * A morning on the approval tablet: a sheet for the small shop's permission 0
- * collects signatures. For each it prints the minute, the entry as user/role,
- * whether it was taken, and what the sheet answers when it is asked; last, the
- * entries that the sheet holds.
+ * collects signatures, and one is taken back. For each step it prints the minute,
+ * the entry as user/role or the user who withdraws, whether it was taken, and
+ * what the sheet answers when it is asked; last, the entries that the sheet
+ * holds.
  *
  *     rt staticlib exports
  *     cc -std=c11 -Iinclude examples/morning.c target/staticlib/libexports.a -o target/morning
@@ -14,18 +15,6 @@
 #include "release.h"
 #include "small_shop.h"
 
-/* Who comes forward when, in which role. */
-struct signing {
-    uint32_t minute, user, role;
-};
-
-static const struct signing morning[] = {
-    {500, 0, 0}, /* the manager, who can't release it alone */
-    {530, 0, 1}, /* the manager again: already on the sheet */
-    {560, 2, 1}, /* a clerk as a buyer: a role that no clerk may act in */
-    {590, 1, 2}, /* the buyer as a clerk, a junior role: the two suffice */
-};
-
 /* An answer in words: done, or the refusal. */
 static void print_answer(const char *done, uint32_t answer) {
     if (answer == RELEASE_DONE) {
@@ -33,6 +22,26 @@ static void print_answer(const char *done, uint32_t answer) {
     } else {
         printf("refused %" PRIu32, answer);
     }
+}
+
+static void ask(uint32_t minute, const uint8_t *sheet) {
+    printf(", release ");
+    print_answer("granted", release_sheet_ask(small_shop, sizeof small_shop,
+                                              minute, 0, 0, sheet));
+    printf("\n");
+}
+
+static void sign(uint32_t minute, uint32_t user, uint32_t role, uint8_t *sheet) {
+    printf("minute %" PRIu32 ": %" PRIu32 "/%" PRIu32 " ", minute, user, role);
+    print_answer("signed", release_sheet_sign(small_shop, sizeof small_shop,
+                                              user, role, sheet));
+    ask(minute, sheet);
+}
+
+static void withdraw(uint32_t minute, uint32_t user, uint8_t *sheet) {
+    printf("minute %" PRIu32 ": %" PRIu32 " ", minute, user);
+    print_answer("withdrawn", release_sheet_withdraw(user, sheet));
+    ask(minute, sheet);
 }
 
 static void print_sheet(const uint8_t *sheet) {
@@ -52,16 +61,13 @@ int main(void) {
         printf("refused %" PRIu32 "\n", refusal);
         return 1;
     }
-    for (size_t i = 0; i < sizeof morning / sizeof morning[0]; i++) {
-        struct signing now = morning[i];
-        printf("minute %" PRIu32 ": %" PRIu32 "/%" PRIu32 " ", now.minute, now.user, now.role);
-        print_answer("signed", release_sheet_sign(small_shop, sizeof small_shop,
-                                                  now.user, now.role, sheet));
-        printf(", release ");
-        print_answer("granted", release_sheet_ask(small_shop, sizeof small_shop,
-                                                  now.minute, 0, 0, sheet));
-        printf("\n");
-    }
+    sign(500, 0, 0, sheet);  /* the manager, who can't release it alone */
+    sign(530, 0, 1, sheet);  /* the manager again: already on the sheet */
+    sign(560, 2, 1, sheet);  /* a clerk as a buyer: a role that no clerk may act in */
+    sign(590, 1, 2, sheet);  /* the buyer as a clerk, a junior role: the two suffice */
+    withdraw(620, 0, sheet); /* the manager has doubts: the buyer is left alone */
+    withdraw(650, 0, sheet); /* the manager again: not on the sheet any more */
+    sign(680, 0, 0, sheet);  /* the manager after all, now behind the buyer */
     print_sheet(sheet);
     return 0;
 }

@@ -20,19 +20,19 @@
  *   With a length above 0 it isn't NULL; nothing checks that.
  * - out overlaps neither base nor list. base, list and group may overlap.
  * A sheet passes as a pointer alone.
- * - The pointer is valid for 14 bytes: to read and write for opening and
- *   signing, to read for asking. It needs no alignment, and nothing beyond is
- *   read or written. It is never NULL; nothing checks that.
+ * - The pointer is valid for 14 bytes: to read and write for opening, signing
+ *   and withdrawing, to read for asking. It needs no alignment, and nothing
+ *   beyond is read or written. It is never NULL; nothing checks that.
  * - base and a sheet that is opened or signed don't overlap. base and a sheet
  *   that is asked may.
  * Nobody else writes the bytes during the call, and nobody else reads out or a
- * sheet that is opened or signed. The library keeps no pointer when the call
- * has returned.
+ * sheet that is opened, signed or withdrawn from. The library keeps no pointer
+ * when the call has returned.
  *
  * Threads. There is no state between calls and nothing is allocated. Any
  * number of threads may call at once, also with the same base or asking the
- * same sheet, each with a buffer of its own, or a sheet of its own to open or
- * sign.
+ * same sheet, each with a buffer of its own, or a sheet of its own to open, sign
+ * or withdraw from.
  *
  * Stack. release_report and release_report_by take about 30,000 bytes, every
  * other call less than 4,096. A thread with 64 KiB of stack suffices for each.
@@ -139,7 +139,9 @@ enum release_refusal {
     RELEASE_REFUSAL_NO_POLICY_OR_WEIGHT = 21,
     /* The resolution list is empty, longer than 3 bytes, repeats a rule or holds
        another byte. */
-    RELEASE_REFUSAL_RESOLUTION = 22
+    RELEASE_REFUSAL_RESOLUTION = 22,
+    /* The user has no entry on the sheet. */
+    RELEASE_REFUSAL_NO_SIGNATURE = 23
 };
 
 #ifdef __cplusplus
@@ -278,6 +280,22 @@ uint32_t release_sheet_open(const uint8_t *base, size_t base_len,
  */
 uint32_t release_sheet_sign(const uint8_t *base, size_t base_len,
                             uint32_t user, uint32_t role, uint8_t *sheet);
+
+/*
+ * Takes a user's signature back from a sheet: 0, or 23 if the user has no entry
+ * among those that the sheet holds. The number isn't cut: user 256 is refused by
+ * 23. No base is consulted.
+ *
+ * Of 0, the sheet holds the other entries, in their order: its number of entries
+ * is theirs, they stand one behind the other from the first on, and every byte
+ * behind them is 0. The permission is as it was. Where a sheet that no call made
+ * names the user more than once, all those entries go. Of a refusal every byte
+ * is as it was.
+ *
+ * So a signing that is taken back at once leaves every byte as it was before it.
+ * The user may sign again, and then stands last.
+ */
+uint32_t release_sheet_withdraw(uint32_t user, uint8_t *sheet);
 
 /*
  * Asks a sheet: the answer of release_decide for its permission and the group

@@ -16,6 +16,8 @@ pub enum Call {
     Open,
     /// By a user in a role.
     Sign(u32, u32),
+    /// Of a user, without a base.
+    Withdraw(u32),
     Ask,
     /// For a policy and its new weight.
     Bound(u32, u32),
@@ -99,6 +101,9 @@ impl Case {
             Call::Sign(user, role) => {
                 release::answers::sheet_sign(&self.base, user, role, self.lent_sheet(out)).into()
             }
+            Call::Withdraw(user) => {
+                release::answers::sheet_withdraw(user, self.lent_sheet(out)).into()
+            }
             Call::Ask => release::answers::sheet_ask(&self.base, at, &self.sheet).into(),
             Call::Bound(policy, weight) => {
                 let group = &self.group;
@@ -121,6 +126,7 @@ impl Case {
             Call::Sign(user, role) => {
                 twin::sheet_sign(&self.base, user, role, self.lent_sheet(out)).into()
             }
+            Call::Withdraw(user) => twin::sheet_withdraw(user, self.lent_sheet(out)).into(),
             Call::Ask => twin::sheet_ask(&self.base, self.at, &self.sheet).into(),
             Call::Bound(policy, weight) => {
                 number(twin::bound(&self.base, policy, weight, &self.group))
@@ -140,6 +146,7 @@ impl Case {
             Call::Sign(user, role) => {
                 model::sheet_sign(&self.base, user, role, self.lent_sheet(out)).into()
             }
+            Call::Withdraw(user) => model::sheet_withdraw(user, self.lent_sheet(out)).into(),
             Call::Ask => model::sheet_ask(&self.base, self.at, &self.sheet).into(),
             Call::Bound(policy, weight) => {
                 number(model::bound(&self.base, policy, weight, &self.group))
@@ -180,6 +187,8 @@ pub fn cases() -> Vec<Case> {
             &above,
             &six_below[..10],
         ),
+        case("withdraw first of six", Call::Withdraw(0), &[], &six),
+        case("withdraw nobody", Call::Withdraw(6), &[], &six),
         case("ask small shop", Call::Ask, &small, &[0, 0, 2, 2]),
         case("ask typical shop", Call::Ask, &typical, &[0, 0, 6, 3]),
         case("ask full base", Call::Ask, &full, &six),
@@ -270,15 +279,22 @@ fn holding(group: &[u8]) -> Sheet {
 mod tests {
     use super::*;
 
+    /// Most calls are done. Full bases grant nothing.
+    fn refusal(case: &Case) -> u64 {
+        let shop = case.name.ends_with("shop");
+        match case.call {
+            Call::Decide | Call::DecideBy | Call::Ask if !shop => 17,
+            Call::Withdraw(6) => 23,
+            _ => 0,
+        }
+    }
+
     #[test]
-    fn all_give_the_same_answer_and_nobody_refuses() {
+    fn all_give_the_same_answer_and_refuse_what_they_should() {
         for case in cases() {
             let answers = ALL.map(|who| case.answer(who, &mut [0; 3 * 2_784]));
             assert!(answers.iter().all(|answer| *answer == answers[0]));
-            let decides = matches!(case.call, Call::Decide | Call::DecideBy | Call::Ask);
-            let shop = case.name.ends_with("shop");
-            let refusal = if decides && !shop { 17 } else { 0 };
-            assert_eq!(answers[0] % 256, refusal, "{}", case.name);
+            assert_eq!(answers[0] % 256, refusal(&case), "{}", case.name);
         }
     }
 

@@ -24,6 +24,7 @@ pub mod shown;
 pub mod sparse;
 pub mod tally;
 pub mod valid;
+pub mod withdrawn;
 
 use lent::Lent;
 use model::Context;

@@ -20,33 +20,32 @@ pub struct Morning {
     pub calls: Vec<(usize, SheetCall)>,
 }
 
-/// A random morning: an opening, then signings, askings and at times another
-/// opening, while the base changes.
+/// A random morning: an opening, then signings, withdrawals, askings and at
+/// times another opening, while the base changes.
 pub fn morning(random: &mut Random) -> Morning {
     let records = sound_base(random);
     let base = read(&records);
     let permission = any_permission(random, base.permissions.len());
     let at = context_in_range(random, &records);
-    let mut wanted = wanted_signings(random, &base, permission, at);
+    let mut signers = Signers::new(random, &base, permission, at);
+    let withdrawals = random.pick(&[0, 4, 12]);
     let mut place = random.pick(&[0, 0, 0, 0, 0, 0, 0, 1, 2, 3, 4]);
     let mut calls = vec![(place, SheetCall::Open { permission })];
-    for _ in 0..random.pick(&[5, 10, 20, 20, 30]) {
+    for _ in 0..random.pick(&[5, 10, 20, 30, 40]) {
         if random.chance(4) {
             place = random.pick(&[0, 0, 0, 0, 0, 0, 1, 1, 2, 3, 4]);
         }
-        let call = match random.below(40) {
+        let call = match random.below(40 + withdrawals) {
             0 => SheetCall::Open {
                 permission: any_permission(random, base.permissions.len()),
             },
-            1..=17 => match wanted.pop() {
-                Some([user, role]) => signing(user, role),
-                None => any_signing(random, &base),
-            },
-            18..=23 => any_signing(random, &base),
+            1..=17 => signers.next(random, &base),
+            18..=23 => signers.anybody(random, &base),
             24..=30 => SheetCall::Ask {
                 at: any_context(random, &records),
             },
-            _ => SheetCall::Ask { at },
+            31..=39 => SheetCall::Ask { at },
+            _ => signers.withdrawal(random),
         };
         calls.push((place, call));
     }
@@ -115,34 +114,96 @@ fn with_other_members(random: &mut Random, records: &BaseBuilder) -> BaseBuilder
     changed
 }
 
-/// Entries of a sound group or of one near a smallest, or none.
-fn wanted_signings(random: &mut Random, base: &Base, permission: u32, at: Context) -> Vec<[u8; 2]> {
-    match Question::new(base, permission, at, Reading::Paper) {
-        Ok(question) if random.chance(3) => sound_group(random, &question),
-        Ok(question) if random.chance(2) => near_smallest(random, &question),
-        _ => vec![],
-    }
+/// Who signs on a morning.
+struct Signers {
+    /// The entries that are wanted next, from the last on.
+    wanted: Vec<[u8; 2]>,
+    /// Those who have come forward, whether accepted or not.
+    come: Vec<[u8; 2]>,
 }
 
-fn signing(user: u8, role: u8) -> SheetCall {
-    SheetCall::Sign {
-        user: user.into(),
-        role: role.into(),
+impl Signers {
+    /// At first a sound group is wanted, or one near a smallest, or nobody.
+    fn new(random: &mut Random, base: &Base, permission: u32, at: Context) -> Signers {
+        let wanted = match Question::new(base, permission, at, Reading::Paper) {
+            Ok(question) if random.chance(3) => sound_group(random, &question),
+            Ok(question) if random.chance(2) => near_smallest(random, &question),
+            _ => vec![],
+        };
+        let come = vec![];
+        Signers { wanted, come }
+    }
+
+    /// The next entry that is wanted, or anybody's.
+    fn next(&mut self, random: &mut Random, base: &Base) -> SheetCall {
+        let Some(entry) = self.wanted.pop() else {
+            return self.anybody(random, base);
+        };
+        self.come.push(entry);
+        let [user, role] = entry.map(u32::from);
+        SheetCall::Sign { user, role }
+    }
+
+    fn anybody(&mut self, random: &mut Random, base: &Base) -> SheetCall {
+        let entry = any_entry(random, base);
+        self.come.push(entry);
+        signing_near(random, base, entry)
+    }
+
+    /// Mostly of one who has come forward, and who may be wanted again.
+    fn withdrawal(&mut self, random: &mut Random) -> SheetCall {
+        let entry = match self.come[..] {
+            [] => [0, 0],
+            _ => random.pick(&self.come),
+        };
+        if random.chance(2) {
+            self.wanted.push(entry);
+        }
+        withdrawal_near(random, entry)
     }
 }
 
 /// Mostly a user who is there, in a role that the user may act in.
 pub fn any_signing(random: &mut Random, base: &Base) -> SheetCall {
-    let [mut user, mut role] = any_entry(random, base).map(u32::from);
+    let entry = any_entry(random, base);
+    signing_near(random, base, entry)
+}
+
+/// Mostly of this entry, at times of another user or role.
+fn signing_near(random: &mut Random, base: &Base, entry: [u8; 2]) -> SheetCall {
+    let [mut user, mut role] = entry.map(u32::from);
     let (users, roles) = (base.users.len() as u32, u32::from(base.roles));
     match random.below(16) {
         0 => user = random.pick(&[users, users + 1, 255]),
-        1 => user = random.pick(&[256, 257, 256 + user, 65_536, 65_536 + user, u32::MAX]),
+        1 => user = above_bytes(random, user),
         2 => role = random.pick(&[roles, 8, 9, 255]),
-        3 => role = random.pick(&[256, 257, 256 + role, 65_536, 65_536 + role, u32::MAX]),
+        3 => role = above_bytes(random, role),
         _ => (),
     }
     SheetCall::Sign { user, role }
+}
+
+/// A number above 255, mostly one that would be cut to this byte or to 0.
+fn above_bytes(random: &mut Random, byte: u32) -> u32 {
+    random.pick(&[256, 257, 256 + byte, 65_536, 65_536 + byte, u32::MAX])
+}
+
+/// Mostly of a user in one of a sheet's six entries, held or not.
+pub fn any_withdrawal(random: &mut Random, sheet: &Sheet) -> SheetCall {
+    let place = 2 + 2 * random.below(6);
+    withdrawal_near(random, [sheet[place], sheet[place + 1]])
+}
+
+/// Mostly of this entry's user.
+fn withdrawal_near(random: &mut Random, entry: [u8; 2]) -> SheetCall {
+    let [user, role] = entry.map(u32::from);
+    let user = match random.below(12) {
+        0 => role,
+        1 => random.byte().into(),
+        2 => above_bytes(random, user),
+        _ => user,
+    };
+    SheetCall::Withdraw { user }
 }
 
 /// Mostly a user who is there, in a role that the user may act in.
@@ -172,11 +233,12 @@ pub fn loose_sheets(
         for _ in 0..15 {
             let at = any_context(&mut drawn, &records);
             let sheet = loose_sheet(&mut drawn, &base, at);
-            let call = match drawn.below(5) {
+            let call = match drawn.below(8) {
                 0 => SheetCall::Open {
                     permission: any_permission(&mut drawn, base.permissions.len()),
                 },
                 1 | 2 => any_signing(&mut drawn, &base),
+                3..=5 => any_withdrawal(&mut drawn, &sheet),
                 _ => SheetCall::Ask { at },
             };
             if drawn.chance(5) {
@@ -237,7 +299,7 @@ mod tests {
 
     #[test]
     fn every_answer_comes_up_often() {
-        let mut tally = [[0; 21]; 3];
+        let mut tally = [[0; 24]; 4];
         all_calls(|base, call, sheet| {
             let answer = call.by_model(Reading::Paper, base, sheet);
             tally[call.kind()][usize::from(answer)] += 1;
@@ -248,13 +310,14 @@ mod tests {
         };
         often(0, &[0, 10]);
         often(1, &[0, 13, 14, 15, 20]);
-        often(2, &[0, 10, 11, 12, 13, 14, 15, 16, 17]);
+        often(2, &[0, 23]);
+        often(3, &[0, 10, 11, 12, 13, 14, 15, 16, 17]);
     }
 
-    /// In how many openings, signings and askings a wrong reading has another
-    /// answer or another sheet.
-    fn differences(reading: Reading) -> [usize; 3] {
-        let mut found = [0; 3];
+    /// In how many openings, signings, withdrawals and askings a wrong reading
+    /// has another answer or another sheet.
+    fn differences(reading: Reading) -> [usize; 4] {
+        let mut found = [0; 4];
         all_calls(|base, call, sheet| {
             let mut other = *sheet;
             let by_reading = call.by_model(reading, base, &mut other);
@@ -268,17 +331,19 @@ mod tests {
     #[test]
     fn every_wrong_reading_comes_up() {
         let on_sheets = Reading::WRONG_ON_SHEETS.into_iter();
+        let on_sheets = on_sheets.chain(Reading::WRONG_OF_WITHDRAWAL);
         for reading in on_sheets.chain(Reading::WRONG_OF_ACTING) {
             let found = differences(reading);
             println!("{reading:?}: {found:?}");
             let shows = match reading {
-                Reading::PermissionKept => [true, false, false],
-                Reading::OverSixAsNone
-                | Reading::HeldAlone
-                | Reading::DirectJuniors
-                | Reading::SeniorsToo => [false, true, true],
-                Reading::SeniorInSet | Reading::SeniorsWeight => [false, false, true],
-                _ => [false, true, false],
+                Reading::PermissionKept => [true, false, false, false],
+                Reading::OverSixAsNone => [false, true, true, true],
+                Reading::HeldAlone | Reading::DirectJuniors | Reading::SeniorsToo => {
+                    [false, true, false, true]
+                }
+                Reading::SeniorInSet | Reading::SeniorsWeight => [false, false, false, true],
+                _ if Reading::WRONG_OF_WITHDRAWAL.contains(&reading) => [false, false, true, false],
+                _ => [false, true, false, false],
             };
             assert_eq!(found.map(|count| count > 0), shows, "{reading:?}");
         }

@@ -9,18 +9,30 @@ use crate::{hex, library_context};
 /// A call on a sheet; the base is handed in beside it.
 #[derive(Clone, Copy, Debug)]
 pub enum SheetCall {
-    Open { permission: u32 },
-    Sign { user: u32, role: u32 },
-    Ask { at: Context },
+    Open {
+        permission: u32,
+    },
+    Sign {
+        user: u32,
+        role: u32,
+    },
+    /// No base is consulted.
+    Withdraw {
+        user: u32,
+    },
+    Ask {
+        at: Context,
+    },
 }
 
 impl SheetCall {
-    /// 0 for an opening, 1 for a signing, 2 for an asking.
+    /// 0 for an opening, 1 for a signing, 2 for a withdrawal, 3 for an asking.
     pub fn kind(self) -> usize {
         match self {
             SheetCall::Open { .. } => 0,
             SheetCall::Sign { .. } => 1,
-            SheetCall::Ask { .. } => 2,
+            SheetCall::Withdraw { .. } => 2,
+            SheetCall::Ask { .. } => 3,
         }
     }
 
@@ -29,6 +41,7 @@ impl SheetCall {
         match self {
             SheetCall::Open { permission } => answers::sheet_open(base, permission, sheet),
             SheetCall::Sign { user, role } => answers::sheet_sign(base, user, role, sheet),
+            SheetCall::Withdraw { user } => answers::sheet_withdraw(user, sheet),
             SheetCall::Ask { at } => answers::sheet_ask(base, library_context(at), sheet),
         }
     }
@@ -37,6 +50,7 @@ impl SheetCall {
         match self {
             SheetCall::Open { permission } => twin::sheet_open(base, permission, sheet),
             SheetCall::Sign { user, role } => twin::sheet_sign(base, user, role, sheet),
+            SheetCall::Withdraw { user } => twin::sheet_withdraw(user, sheet),
             SheetCall::Ask { at } => twin::sheet_ask(base, at, sheet),
         }
     }
@@ -49,6 +63,7 @@ impl SheetCall {
             SheetCall::Sign { user, role } => {
                 model::sheet_sign_as(reading, base, user, role, sheet)
             }
+            SheetCall::Withdraw { user } => model::sheet_withdraw_as(reading, user, sheet),
             SheetCall::Ask { at } => model::sheet_ask_as(reading, base, at, sheet),
         }
     }

@@ -197,6 +197,23 @@ impl SheetTwice {
         }
     }
 
+    /// The same answer, whether the user comes as a byte or as a number.
+    fn withdraw(&mut self, user: u8) {
+        let expected = answers::sheet_withdraw(user.into(), &mut self.bytes);
+        let mut by_number = self.sheet.clone();
+        let withdrawn = by_number.withdraw_number(user.into());
+        assert_eq!(number(&withdrawn), expected);
+        assert_eq!(number(&self.sheet.withdraw(user)), expected);
+        assert_eq!(by_number, self.sheet);
+    }
+
+    /// A number of more than a byte.
+    fn withdraw_beyond(&mut self, user: u8) {
+        let user = 256 + u32::from(user);
+        let expected = answers::sheet_withdraw(user, &mut self.bytes);
+        assert_eq!(number(&self.sheet.withdraw_number(user)), expected);
+    }
+
     /// The same bytes, and what the wrapper reads in them.
     fn expect_same(&self) {
         assert_eq!(self.sheet.to_bytes(), self.bytes);
@@ -216,20 +233,31 @@ impl SheetTwice {
     }
 }
 
-/// The group's entries sign one by one; of a long one the first 20.
+/// The group's entries sign one by one, of a long one the first 20; then their
+/// users withdraw, the second of each two first.
 fn expect_signings(base: &[u8], at: Context, mut sheet: SheetTwice, group: &[u8]) {
     sheet.expect_same();
     sheet.expect_asked(base, at);
-    for pair in group.chunks_exact(2).take(20) {
+    let pairs = group.chunks_exact(2).take(20);
+    for pair in pairs.clone() {
         let entry = Entry::new(pair[0], pair[1]);
         sheet.sign_beyond(base, entry);
         sheet.sign(base, entry);
         sheet.expect_same();
         sheet.expect_asked(base, at);
     }
+    let users = pairs.map(|pair| pair[0]);
+    let every_second = users.clone().skip(1).step_by(2);
+    for user in every_second.chain(users) {
+        sheet.withdraw_beyond(user);
+        sheet.withdraw(user);
+        sheet.expect_same();
+        sheet.expect_asked(base, at);
+    }
 }
 
-/// The group signs a new sheet for the permission, and one made of its bytes.
+/// The group signs a new sheet for the permission, and one made of its bytes,
+/// and withdraws.
 fn expect_sheets(base: &[u8], at: Context, asked: &Asked) {
     let opened = SheetTwice::open(base, asked.permission);
     expect_signings(base, at, opened, &asked.group);

@@ -58,8 +58,9 @@ pub use resolution::{Numbered, Resolution, Rule, LEGAL_LISTS};
 pub use roles::{Role, RoleSet};
 pub use seniority::Seniority;
 pub use sheet::{
-    sheet_ask, sheet_ask_as, sheet_open, sheet_open_as, sheet_sign, sheet_sign_as, Sheet,
+    sheet_ask, sheet_ask_as, sheet_holding, sheet_open, sheet_open_as, sheet_sign, sheet_sign_as,
+    sheet_withdraw, sheet_withdraw_as, Sheet,
 };
-pub use signings::{accepted, sheet_holding, Signing};
+pub use signings::{accepted, standing, Event, Signing};
 pub use smallest::{smallest_by_reach, smallest_by_trial, smallest_group};
 pub use weight::Situation;

@@ -2,8 +2,9 @@
 
 /// The paper's reading with the requests', or a wrong one: those that the paper
 /// warns of, and some of the conflict list, of sheets, of who may act as what,
-/// of what a changed weight can shift and of which policy goes before. A test
-/// can take a wrong one to show that the comparison notices it.
+/// of what a changed weight can shift, of which policy goes before and of what
+/// a withdrawal leaves. A test can take a wrong one to show that the comparison
+/// notices it.
 #[derive(Clone, Copy, Debug, Default, PartialEq, Eq)]
 pub enum Reading {
     #[default]
@@ -100,6 +101,18 @@ pub enum Reading {
     RepeatsAllowed,
     /// Another byte in a list tells no policies apart.
     OtherBytesAllowed,
+    /// The last entry takes the place of the one withdrawn.
+    LastIntoGap,
+    /// The entry withdrawn becomes zero bytes and still counts.
+    ClearedInPlace,
+    /// The entries behind the one withdrawn go too.
+    LaterDropped,
+    /// A withdrawal looks for its number among the roles acted in.
+    RoleWithdrawn,
+    /// Of a user who stands twice, only the first entry goes.
+    FirstEntryAlone,
+    /// The bytes behind the entries that stay aren't cleared.
+    BehindUncleared,
 }
 
 impl Reading {
@@ -167,6 +180,16 @@ impl Reading {
         Reading::FirstThreeBytes,
         Reading::RepeatsAllowed,
         Reading::OtherBytesAllowed,
+    ];
+
+    /// Wrong readings that only a withdrawal shows.
+    pub const WRONG_OF_WITHDRAWAL: [Reading; 6] = [
+        Reading::LastIntoGap,
+        Reading::ClearedInPlace,
+        Reading::LaterDropped,
+        Reading::RoleWithdrawn,
+        Reading::FirstEntryAlone,
+        Reading::BehindUncleared,
     ];
 }
 

@@ -25,6 +25,7 @@ pub enum Refusal {
     SheetFull = 20,
     NoPolicyOrWeight = 21,
     Resolution = 22,
+    NoSignature = 23,
 }
 
 impl Refusal {

@@ -5,7 +5,7 @@ use crate::acting::Acting;
 use crate::base::Base;
 use crate::context::Context;
 use crate::decision::decide_as;
-use crate::group::{entries, Entry, MOST_ENTRIES};
+use crate::group::{entries, pairs, Entry, MOST_ENTRIES};
 use crate::reading::Reading;
 use crate::refusal::{number, refuse_if, Refusal};
 
@@ -52,6 +52,27 @@ pub fn sheet_sign_as(reading: Reading, base: &[u8], user: u32, role: u32, sheet:
     number(entry)
 }
 
+/// Takes a user's signature back: the entries held without the user's stay, in
+/// their order, and each byte behind them is 0. No byte changes if refusal 23
+/// applies: the user has no entry on the sheet.
+pub fn sheet_withdraw(user: u32, sheet: &mut Sheet) -> u8 {
+    sheet_withdraw_as(Reading::Paper, user, sheet)
+}
+
+/// The withdrawal by this reading.
+pub fn sheet_withdraw_as(reading: Reading, user: u32, sheet: &mut Sheet) -> u8 {
+    let staying = staying(reading, user, sheet);
+    if let Ok(entries) = &staying {
+        let before = *sheet;
+        *sheet = sheet_holding(before[0], entries);
+        if reading == Reading::BehindUncleared {
+            let behind = 2 + 2 * entries.len();
+            sheet[behind..].copy_from_slice(&before[behind..]);
+        }
+    }
+    number(staying)
+}
+
 /// The decision for a sheet's permission and the entries that it holds.
 pub fn sheet_ask(base: &[u8], at: Context, sheet: &Sheet) -> u8 {
     sheet_ask_as(Reading::Paper, base, at, sheet)
@@ -61,6 +82,15 @@ pub fn sheet_ask(base: &[u8], at: Context, sheet: &Sheet) -> u8 {
 pub fn sheet_ask_as(reading: Reading, base: &[u8], at: Context, sheet: &Sheet) -> u8 {
     let group = held(reading, sheet);
     decide_as(reading, base, sheet[0].into(), at, None, group)
+}
+
+/// The sheet for a permission that holds exactly these entries, six at most.
+pub fn sheet_holding(permission: u8, entries: &[Entry]) -> Sheet {
+    let mut sheet = [0; 14];
+    let bytes: Vec<u8> = entries.iter().flat_map(|entry| entry.bytes()).collect();
+    (sheet[0], sheet[1]) = (permission, entries.len() as u8);
+    sheet[2..][..bytes.len()].copy_from_slice(&bytes);
+    sheet
 }
 
 /// The bytes of the entries that a sheet holds: as many as it claims, and of
@@ -103,6 +133,28 @@ fn new_entry(
     refuse_if(!may_act, Refusal::Membership)?;
     refuse_if(full, Refusal::SheetFull)?;
     Ok(entry)
+}
+
+/// The entries held that a user's withdrawal leaves, or refusal 23.
+fn staying(reading: Reading, user: u32, sheet: &Sheet) -> Result<Vec<Entry>, Refusal> {
+    let mut entries: Vec<Entry> = pairs(held(reading, sheet)).collect();
+    let goes = |entry: &Entry| match reading {
+        Reading::RoleWithdrawn => u32::from(entry.role) == user,
+        _ => u32::from(entry.user) == user,
+    };
+    let first = entries.iter().position(goes).ok_or(Refusal::NoSignature)?;
+    match reading {
+        Reading::LastIntoGap => {
+            entries.swap_remove(first);
+        }
+        Reading::ClearedInPlace => entries[first] = Entry { user: 0, role: 0 },
+        Reading::LaterDropped => entries.truncate(first),
+        Reading::FirstEntryAlone => {
+            entries.remove(first);
+        }
+        _ => entries.retain(|entry| !goes(entry)),
+    }
+    Ok(entries)
 }
 
 impl Base {
@@ -314,6 +366,129 @@ mod tests {
         assert_eq!(sheet_ask(&SMALL_SHOP, at_minute(480), &sheet), 16);
     }
 
+    /// The answer to a withdrawal, and the sheet afterwards.
+    fn withdrawn_by(reading: Reading, user: u32, mut sheet: Sheet) -> (u8, Sheet) {
+        (sheet_withdraw_as(reading, user, &mut sheet), sheet)
+    }
+
+    fn withdrawn(user: u32, mut sheet: Sheet) -> (u8, Sheet) {
+        (sheet_withdraw(user, &mut sheet), sheet)
+    }
+
+    #[test]
+    fn a_sheets_later_bytes_are_0() {
+        let entry = |user, role| Entry { user, role };
+        let sheet = sheet_holding(7, &[entry(3, 2), entry(0, 0)]);
+        assert_eq!(sheet, [7, 2, 3, 2, 0, 0, 0, 0, 0, 0, 0, 0, 0, 0]);
+        assert_eq!(sheet_holding(255, &[])[..3], [255, 0, 0]);
+    }
+
+    #[test]
+    fn the_entries_that_stay_keep_their_order() {
+        let after = [
+            (50, [0, 5, 52, 53, 54, 55, 56, 57, 58, 59, 60, 61, 0, 0]),
+            (52, [0, 5, 50, 51, 54, 55, 56, 57, 58, 59, 60, 61, 0, 0]),
+            (54, [0, 5, 50, 51, 52, 53, 56, 57, 58, 59, 60, 61, 0, 0]),
+            (58, [0, 5, 50, 51, 52, 53, 54, 55, 56, 57, 60, 61, 0, 0]),
+            (60, [0, 5, 50, 51, 52, 53, 54, 55, 56, 57, 58, 59, 0, 0]),
+        ];
+        for (user, after) in after {
+            assert_eq!(withdrawn(user, claiming(6)), (0, after));
+        }
+    }
+
+    #[test]
+    fn the_last_signature_taken_back_leaves_an_unsigned_sheet() {
+        let sheet = [9, 1, 4, 2, 0, 0, 0, 0, 0, 0, 0, 0, 0, 0];
+        let unsigned = [9, 0, 0, 0, 0, 0, 0, 0, 0, 0, 0, 0, 0, 0];
+        assert_eq!(withdrawn(4, sheet), (0, unsigned));
+        assert_eq!(withdrawn(4, unsigned), (23, unsigned));
+    }
+
+    /// Neither the permission 9, nor the claim 200, nor a role, nor a user who
+    /// isn't there.
+    #[test]
+    fn a_user_without_an_entry_gets_23_and_no_byte_changes() {
+        let noise = [9, 200, 7, 1, 6, 1, 5, 1, 4, 1, 3, 1, 2, 1];
+        for user in [9, 200, 1, 0, 255, 256, 263, u32::MAX] {
+            assert_eq!(withdrawn(user, noise), (23, noise));
+        }
+    }
+
+    #[test]
+    fn withdrawn_users_are_not_cut_to_bytes() {
+        let sheet = [0, 2, 0, 0, 255, 0, 0, 0, 0, 0, 0, 0, 0, 0];
+        for user in [256, 511, 65_536, 65_791, 1 << 24, 1 << 31, u32::MAX] {
+            assert_eq!(withdrawn(user, sheet), (23, sheet));
+        }
+        assert_eq!(withdrawn(0, sheet).0, 0);
+        assert_eq!(withdrawn(255, sheet).0, 0);
+    }
+
+    /// Users 54 and so on stand behind the two entries claimed.
+    #[test]
+    fn bytes_behind_the_entries_are_no_entries_and_are_cleared() {
+        for user in [54, 56, 58, 60] {
+            assert_eq!(withdrawn(user, claiming(2)), (23, claiming(2)));
+        }
+        let after = [0, 1, 50, 51, 0, 0, 0, 0, 0, 0, 0, 0, 0, 0];
+        assert_eq!(withdrawn(52, claiming(2)), (0, after));
+    }
+
+    #[test]
+    fn of_a_claim_over_six_five_entries_stay() {
+        let after = [0, 5, 50, 51, 52, 53, 54, 55, 58, 59, 60, 61, 0, 0];
+        for count in [6, 7, 8, 127, 128, 254, 255] {
+            assert_eq!(withdrawn(56, claiming(count)), (0, after));
+            assert_eq!(withdrawn(62, claiming(count)), (23, claiming(count)));
+        }
+    }
+
+    #[test]
+    fn all_entries_of_a_user_who_stands_twice_go() {
+        for count in [6, 255] {
+            let sheet = [3, count, 1, 0, 2, 0, 1, 1, 4, 0, 5, 1, 1, 2];
+            let after = [3, 3, 2, 0, 4, 0, 5, 1, 0, 0, 0, 0, 0, 0];
+            assert_eq!(withdrawn(1, sheet), (0, after));
+            assert_eq!(withdrawn(1, after), (23, after));
+        }
+        assert_eq!(withdrawn(7, [7; 14]).1[..4], [7, 0, 0, 0]);
+    }
+
+    #[test]
+    fn a_signing_taken_back_at_once_leaves_the_sheet_as_it_was() {
+        let made = [
+            [255, 0, 0, 0, 0, 0, 0, 0, 0, 0, 0, 0, 0, 0],
+            [0, 1, 2, 2, 0, 0, 0, 0, 0, 0, 0, 0, 0, 0],
+            [0, 5, 9, 0, 2, 2, 0, 1, 8, 0, 3, 2, 0, 0],
+        ];
+        for before in made {
+            let (answer, after) = signed(1, 1, before);
+            assert_eq!(answer, 0);
+            assert_eq!(withdrawn(1, after), (0, before));
+        }
+    }
+
+    #[test]
+    fn who_has_withdrawn_may_sign_again_and_stands_last() {
+        let mut sheet = [0, 3, 0, 0, 1, 1, 2, 2, 0, 0, 0, 0, 0, 0];
+        assert_eq!(sheet_sign(&SMALL_SHOP, 0, 1, &mut sheet), 14);
+        assert_eq!(sheet_withdraw(0, &mut sheet), 0);
+        assert_eq!(sheet_sign(&SMALL_SHOP, 0, 1, &mut sheet), 0);
+        assert_eq!(sheet, [0, 3, 1, 1, 2, 2, 0, 1, 0, 0, 0, 0, 0, 0]);
+    }
+
+    #[test]
+    fn a_withdrawal_changes_what_the_sheet_is_answered() {
+        let mut sheet = [0, 2, 0, 0, 2, 2, 0, 0, 0, 0, 0, 0, 0, 0];
+        let ask = |sheet: &Sheet| sheet_ask(&SMALL_SHOP, at_minute(600), sheet);
+        assert_eq!(ask(&sheet), 0);
+        assert_eq!(sheet_withdraw(0, &mut sheet), 0);
+        assert_eq!(ask(&sheet), 17);
+        assert_eq!(sheet_withdraw(2, &mut sheet), 0);
+        assert_eq!(ask(&sheet), 12);
+    }
+
     /// A sheet of small numbers and any claim.
     fn any_sheet(draws: &mut Draws) -> Sheet {
         let mut sheet = [0; 14].map(|_: u8| draws.byte(0, 4));
@@ -381,5 +556,39 @@ mod tests {
         assert_eq!([5, 6, 7, 255].map(ask), [13, 13, 12, 12]);
         let (answer, sheet) = signed_by(wrong, 1, 1, claiming(7));
         assert_eq!((answer, &sheet[..4]), (0, &[0, 1, 1, 1][..]));
+    }
+
+    /// By the paper users 2 and 3 stay, in this order.
+    #[test]
+    fn wrong_readings_of_a_withdrawal_leave_other_sheets() {
+        let sheet = [0, 3, 1, 0, 2, 1, 3, 2, 0, 0, 0, 0, 0, 0];
+        let after = [
+            (Reading::Paper, [0, 2, 2, 1, 3, 2, 0, 0]),
+            (Reading::LastIntoGap, [0, 2, 3, 2, 2, 1, 0, 0]),
+            (Reading::ClearedInPlace, [0, 3, 0, 0, 2, 1, 3, 2]),
+            (Reading::LaterDropped, [0, 0, 0, 0, 0, 0, 0, 0]),
+            (Reading::RoleWithdrawn, [0, 2, 1, 0, 3, 2, 0, 0]),
+            (Reading::FirstEntryAlone, [0, 2, 2, 1, 3, 2, 0, 0]),
+            (Reading::BehindUncleared, [0, 2, 2, 1, 3, 2, 3, 2]),
+        ];
+        for (reading, first_bytes) in after {
+            let (answer, left) = withdrawn_by(reading, 1, sheet);
+            assert_eq!((answer, &left[..8]), (0, &first_bytes[..]), "{reading:?}");
+            assert_eq!(left[8..], [0; 6], "{reading:?}");
+        }
+    }
+
+    #[test]
+    fn a_wrong_reading_withdraws_one_of_two_entries() {
+        let sheet = [0, 3, 1, 0, 2, 1, 1, 2, 0, 0, 0, 0, 0, 0];
+        let after = [0, 2, 2, 1, 1, 2, 0, 0, 0, 0, 0, 0, 0, 0];
+        assert_eq!(withdrawn_by(Reading::FirstEntryAlone, 1, sheet), (0, after));
+    }
+
+    #[test]
+    fn a_wrong_reading_finds_nobody_on_a_sheet_that_claims_over_six() {
+        let wrong = Reading::OverSixAsNone;
+        assert_eq!(withdrawn_by(wrong, 50, claiming(6)).0, 0);
+        assert_eq!(withdrawn_by(wrong, 50, claiming(7)), (23, claiming(7)));
     }
 }

@@ -206,6 +206,27 @@ pub fn sheet_sign(base: &[u8], user: u32, role: u32, sheet: &mut [u8; SHEET_BYTE
     library::sheet_sign(base, user, role, sheet)
 }
 
+/// Takes a user's signature back: 0, or 23 if the user has no entry on the
+/// sheet. No base is consulted. The entries that stay keep their order, their
+/// number is counted anew, and every byte behind them is 0. Where a sheet that
+/// no call made names the user more than once, all those entries go. A refusal
+/// writes nothing.
+///
+/// ```
+/// use release::answers;
+///
+/// let mut sheet = [0, 3, 0, 0, 2, 2, 1, 1, 0, 0, 0, 0, 0, 0];
+/// assert_eq!(answers::sheet_withdraw(2, &mut sheet), 0);
+/// assert_eq!(sheet, [0, 2, 0, 0, 1, 1, 0, 0, 0, 0, 0, 0, 0, 0]);
+///
+/// assert_eq!(answers::sheet_withdraw(2, &mut sheet), 23);
+/// assert_eq!(answers::sheet_withdraw(256, &mut sheet), 23);
+/// assert_eq!(sheet, [0, 2, 0, 0, 1, 1, 0, 0, 0, 0, 0, 0, 0, 0]);
+/// ```
+pub fn sheet_withdraw(user: u32, sheet: &mut [u8; SHEET_BYTES]) -> u32 {
+    library::sheet_withdraw(user, sheet)
+}
+
 /// Asks a sheet: the answer of [`decide`] for its permission and the group of
 /// the entries that it holds, in their order.
 ///

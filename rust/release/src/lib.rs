@@ -15,7 +15,7 @@
 //! | [`decide_by`], [`decide_by_bytes`], [`report_by`], [`report_by_into`] | the same where a [`Resolution`] says which of several policies counts |
 //! | [`conflicts`], [`conflicts_into`], [`conflict_count`] | which records of the base conflict? |
 //! | [`bound`], [`bound_bytes`] | how far can a policy's new weight shift this group's sum of weights? |
-//! | [`Sheet::open`], [`Sheet::sign`], [`Sheet::ask`] | may those who have signed so far release this permission? |
+//! | [`Sheet::open`], [`Sheet::sign`], [`Sheet::withdraw`], [`Sheet::ask`] | may those whose signatures stand release this permission? |
 //!
 //! The answer is the result, or the first [`Refusal`] that applies. A refused
 //! call writes nothing, with one exception: a refused

@@ -85,6 +85,8 @@ mod foreign {
             sheet: *mut u8,
         ) -> u32;
 
+        pub fn release_sheet_withdraw(user: u32, sheet: *mut u8) -> u32;
+
         pub fn release_sheet_ask(
             base: *const u8,
             base_len: usize,
@@ -215,6 +217,12 @@ pub fn sheet_sign(base: &[u8], user: u32, role: u32, sheet: &mut [u8; SHEET_BYTE
     unsafe {
         foreign::release_sheet_sign(base.as_ptr(), base.len(), user, role, sheet.as_mut_ptr())
     }
+}
+
+pub fn sheet_withdraw(user: u32, sheet: &mut [u8; SHEET_BYTES]) -> u32 {
+    // SAFETY: the pointer is that of a sheet's 14 bytes, which the library reads
+    // and writes, and only during the call.
+    unsafe { foreign::release_sheet_withdraw(user, sheet.as_mut_ptr()) }
 }
 
 pub fn sheet_ask(base: &[u8], at: Context, sheet: &[u8; SHEET_BYTES]) -> u32 {

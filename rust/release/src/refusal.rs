@@ -61,11 +61,13 @@ pub enum Refusal {
     /// 22: the resolution list is empty, longer than 3 bytes, repeats a rule or
     /// holds another byte. It comes after 9 and before 10.
     Resolution = 22,
+    /// 23: the user has no entry on the sheet.
+    NoSignature = 23,
 }
 
 impl Refusal {
     /// Every refusal, by number.
-    pub const ALL: [Refusal; 22] = [
+    pub const ALL: [Refusal; 23] = [
         Refusal::Length,
         Refusal::Letters,
         Refusal::Trailer,
@@ -88,9 +90,10 @@ impl Refusal {
         Refusal::SheetFull,
         Refusal::NoPolicyOrWeight,
         Refusal::Resolution,
+        Refusal::NoSignature,
     ];
 
-    /// The refusal's number, 1 to 22.
+    /// The refusal's number, 1 to 23.
     ///
     /// ```
     /// assert_eq!(release::Refusal::UserTwice.number(), 14);
@@ -167,6 +170,7 @@ impl Refusal {
                 "the resolution list is empty, longer than 3 bytes, repeats a rule or \
                  holds another byte"
             }
+            Refusal::NoSignature => "the user has no entry on the sheet",
         }
     }
 }
@@ -189,7 +193,7 @@ impl Error for Refusal {}
 pub(crate) fn result_of(answer: u32) -> Result<(), Refusal> {
     match answer {
         0 => Ok(()),
-        _ => Err(Refusal::from_number(answer).expect("the library answers 0 to 22")),
+        _ => Err(Refusal::from_number(answer).expect("the library answers 0 to 23")),
     }
 }
 
@@ -205,7 +209,7 @@ mod tests {
             assert_eq!(result_of(number), Err(refusal));
         }
         assert_eq!(result_of(0), Ok(()));
-        assert_eq!(Refusal::from_number(23), None);
+        assert_eq!(Refusal::from_number(24), None);
     }
 
     #[test]

@@ -10,11 +10,11 @@ use crate::refusal::{result_of, Refusal};
 pub const SHEET_BYTES: usize = 14;
 
 /// A sheet that collects signatures for a permission, one by one. It holds
-/// those accepted, six at most, in order of acceptance.
+/// each accepted one not withdrawn since, six at most, in order of acceptance.
 ///
-/// Each call takes a base, and the sheet remembers none: a signature is held
-/// against the base at signing and, with the others, against the base at
-/// asking. A sheet can be kept as its [bytes](Sheet::to_bytes).
+/// Each call but a withdrawal takes a base, and the sheet remembers none: a
+/// signature is held against the base at signing and, with the others, against
+/// the base at asking. A sheet can be kept as its [bytes](Sheet::to_bytes).
 ///
 /// ```
 /// use release::example::SMALL_SHOP;
@@ -98,7 +98,50 @@ impl Sheet {
         result_of(answers::sheet_sign(base, user, role, &mut self.bytes))
     }
 
-    /// Whether those who have signed may release the permission: what
+    /// Takes a user's signature back, or gives [`Refusal::NoSignature`] if the
+    /// user has no entry on the sheet; then the sheet is as it was. No base is
+    /// consulted. The entries that stay keep their order. The user may sign
+    /// again and then stands last; a signing taken back at once leaves the sheet
+    /// as it was before it.
+    ///
+    /// ```
+    /// use release::example::SMALL_SHOP;
+    /// use release::{Entry, Refusal, Sheet};
+    ///
+    /// let mut sheet = Sheet::open(&SMALL_SHOP, 0)?;
+    /// for (user, role) in [(0, 0), (2, 2), (1, 1)] {
+    ///     sheet.sign(&SMALL_SHOP, Entry::new(user, role))?;
+    /// }
+    /// assert_eq!(sheet.withdraw(0), Ok(()));
+    /// assert!(sheet.entries().eq([Entry::new(2, 2), Entry::new(1, 1)]));
+    /// assert_eq!(sheet.withdraw(0), Err(Refusal::NoSignature));
+    ///
+    /// sheet.sign(&SMALL_SHOP, Entry::new(0, 1))?;
+    /// assert!(sheet.entries().map(|entry| entry.user).eq([2, 1, 0]));
+    /// # Ok::<(), Refusal>(())
+    /// ```
+    pub fn withdraw(&mut self, user: u8) -> Result<(), Refusal> {
+        self.withdraw_number(user.into())
+    }
+
+    /// The same for a user of any number, which isn't cut: one above 255 gets
+    /// [`Refusal::NoSignature`].
+    ///
+    /// ```
+    /// use release::example::SMALL_SHOP;
+    /// use release::{Entry, Refusal, Sheet};
+    ///
+    /// let mut sheet = Sheet::open(&SMALL_SHOP, 0)?;
+    /// sheet.sign(&SMALL_SHOP, Entry::new(0, 0))?;
+    /// assert_eq!(sheet.withdraw_number(256), Err(Refusal::NoSignature));
+    /// assert_eq!(sheet.withdraw_number(0), Ok(()));
+    /// # Ok::<(), Refusal>(())
+    /// ```
+    pub fn withdraw_number(&mut self, user: u32) -> Result<(), Refusal> {
+        result_of(answers::sheet_withdraw(user, &mut self.bytes))
+    }
+
+    /// Whether those whose signatures stand may release the permission: what
     /// [`decide`](crate::decide) says of it and of the entries that the sheet
     /// holds. Unsigned, it gets [`Refusal::GroupLength`], after 1 to 11.
     ///
@@ -284,6 +327,50 @@ mod tests {
     }
 
     #[test]
+    fn a_sheet_holds_those_not_withdrawn_since() {
+        let base = eight_users();
+        let mut sheet = full_sheet(&base);
+        for user in [3, 7, 2] {
+            assert_eq!(sheet.withdraw(user), Ok(()));
+            assert_eq!(sheet.withdraw(user), Err(Refusal::NoSignature));
+            expect_decision(&base, &sheet);
+        }
+        assert_eq!(sheet.to_bytes(), [0, 3, 4, 2, 5, 2, 6, 2, 0, 0, 0, 0, 0, 0]);
+        assert_eq!(sheet.sign(&base, Entry::new(3, 2)), Ok(()));
+        let users = sheet.entries().map(|entry| entry.user);
+        assert!(users.eq([4, 5, 6, 3]));
+        for user in [4, 5, 6, 3] {
+            assert_eq!(sheet.withdraw(user), Ok(()));
+        }
+        assert_eq!(sheet, Sheet::open(&base, 0).expect("it is opened"));
+    }
+
+    #[test]
+    fn a_signing_taken_back_at_once_leaves_the_sheet_as_it_was() {
+        let base = eight_users();
+        let mut sheet = Sheet::open(&base, 0).expect("it is opened");
+        for user in 2..8 {
+            let before = sheet.clone();
+            assert_eq!(sheet.sign(&base, Entry::new(user, 2)), Ok(()));
+            let signed = sheet.clone();
+            assert_eq!(sheet.withdraw(user), Ok(()));
+            assert_eq!(sheet, before);
+            sheet = signed;
+        }
+    }
+
+    #[test]
+    fn a_user_without_an_entry_changes_nothing() {
+        let full = full_sheet(&eight_users());
+        let mut sheet = full.clone();
+        for user in [0, 1, 8, 255, 256, 258, 65_538, u32::MAX] {
+            let refused = sheet.withdraw_number(user);
+            assert_eq!(refused, Err(Refusal::NoSignature));
+            assert_eq!(sheet, full);
+        }
+    }
+
+    #[test]
     fn a_refused_base_takes_no_signature() {
         let mut sheet = Sheet::open(&SMALL_SHOP, 0).expect("it is opened");
         let refused = sheet.sign(&SMALL_SHOP[1..], Entry::new(9, 9));
@@ -334,6 +421,8 @@ mod tests {
             let refused = sheet.sign(&base, Entry::new(1, 1));
             assert_eq!(refused, Err(Refusal::SheetFull));
             assert_eq!(sheet.to_bytes(), bytes);
+            assert_eq!(sheet.withdraw(7), Ok(()));
+            assert_eq!(sheet.to_bytes(), [0, 5, 2, 2, 3, 2, 4, 2, 5, 2, 6, 2, 0, 0]);
         }
     }
 
@@ -348,7 +437,7 @@ mod tests {
         assert_eq!(asked, Err(Refusal::NoPermission));
     }
 
-    /// Bytes behind the entries held stay, and none of them is read.
+    /// Signing leaves the bytes behind the entries held, and reads none of them.
     #[test]
     fn other_bytes_are_as_they_were() {
         let mut sheet = Sheet::from_bytes([9, 1, 2, 2, 0, 0, 7, 7, 7, 7, 7, 7, 7, 7]);
@@ -356,5 +445,15 @@ mod tests {
         assert_eq!(sheet.sign(&SMALL_SHOP, Entry::new(3, 2)), Ok(()));
         let bytes = [9, 3, 2, 2, 0, 0, 3, 2, 7, 7, 7, 7, 7, 7];
         assert_eq!(sheet.to_bytes(), bytes);
+    }
+
+    /// Sheets that no call made: user 2 stands twice, and 7 is no entry.
+    #[test]
+    fn a_withdrawal_clears_what_lies_behind() {
+        let mut sheet = Sheet::from_bytes([9, 4, 2, 2, 0, 0, 2, 1, 3, 2, 7, 7, 7, 7]);
+        assert_eq!(sheet.withdraw(7), Err(Refusal::NoSignature));
+        assert_eq!(sheet.withdraw(2), Ok(()));
+        assert_eq!(sheet.to_bytes(), [9, 2, 0, 0, 3, 2, 0, 0, 0, 0, 0, 0, 0, 0]);
+        assert_eq!(sheet.withdraw(2), Err(Refusal::NoSignature));
     }
 }

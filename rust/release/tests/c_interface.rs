@@ -86,7 +86,10 @@ fn the_example_prints_a_morning() {
         minute 530: 0/1 refused 14, release refused 17\n\
         minute 560: 2/1 refused 15, release refused 17\n\
         minute 590: 1/2 signed, release granted\n\
-        permission 0: 0/0 1/2\n";
+        minute 620: 0 withdrawn, release refused 17\n\
+        minute 650: 0 refused 23, release refused 17\n\
+        minute 680: 0/0 signed, release granted\n\
+        permission 0: 1/2 0/0\n";
     assert_eq!(printed(&example, &[]), expected);
 }
 

@@ -318,6 +318,51 @@ static void signings(void) {
     expect_sheet("a sheet signed by three", signed_3, guarded);
 }
 
+static void withdrawals(void) {
+    const uint8_t three[RELEASE_SHEET_BYTES] = {0, 3, 0, 0, 3, 2, 1, 2};
+    const uint8_t two[RELEASE_SHEET_BYTES] = {0, 2, 0, 0, 1, 2};
+    const uint8_t again[RELEASE_SHEET_BYTES] = {0, 3, 0, 0, 1, 2, 3, 2};
+    const uint8_t unsigned_0[RELEASE_SHEET_BYTES] = {0};
+    struct guarded guarded = unopened();
+    memcpy(guarded.sheet, three, sizeof three);
+    expect("23", RELEASE_REFUSAL_NO_SIGNATURE, release_sheet_withdraw(2, guarded.sheet));
+    expect("23", RELEASE_REFUSAL_NO_SIGNATURE, release_sheet_withdraw(256, guarded.sheet));
+    expect("23", RELEASE_REFUSAL_NO_SIGNATURE, release_sheet_withdraw(259, guarded.sheet));
+    expect("23", RELEASE_REFUSAL_NO_SIGNATURE,
+           release_sheet_withdraw(UINT32_MAX, guarded.sheet));
+    expect_sheet("a refused withdrawal writes nothing", three, guarded);
+    expect("withdraw", RELEASE_DONE, release_sheet_withdraw(3, guarded.sheet));
+    expect_sheet("the others in their order", two, guarded);
+    expect("23", RELEASE_REFUSAL_NO_SIGNATURE, release_sheet_withdraw(3, guarded.sheet));
+    expect("sign again", RELEASE_DONE, release_sheet_sign(shop, SHOP, 3, 2, guarded.sheet));
+    expect_sheet("the last of three", again, guarded);
+    expect("take it back", RELEASE_DONE, release_sheet_withdraw(3, guarded.sheet));
+    expect_sheet("the sheet as it was", two, guarded);
+    expect("withdraw", RELEASE_DONE, release_sheet_withdraw(0, guarded.sheet));
+    expect("withdraw", RELEASE_DONE, release_sheet_withdraw(1, guarded.sheet));
+    expect_sheet("an unsigned sheet", unsigned_0, guarded);
+    expect("23", RELEASE_REFUSAL_NO_SIGNATURE, release_sheet_withdraw(0, guarded.sheet));
+}
+
+/* Sheets that no call made: more entries claimed than there can be, a user named
+   twice, and bytes behind the entries. */
+static void other_sheets(void) {
+    const uint8_t over[RELEASE_SHEET_BYTES] = {9, 255, 1, 1, 2, 2, 3, 3, 4, 4, 5, 5, 6, 6};
+    const uint8_t five[RELEASE_SHEET_BYTES] = {9, 5, 1, 1, 2, 2, 3, 3, 5, 5, 6, 6};
+    const uint8_t twice[RELEASE_SHEET_BYTES] = {9, 3, 1, 1, 2, 2, 1, 3, 4, 4, 1, 5, 6, 6};
+    const uint8_t one[RELEASE_SHEET_BYTES] = {9, 1, 2, 2};
+    struct guarded guarded = unopened();
+    memcpy(guarded.sheet, over, sizeof over);
+    expect("withdraw", RELEASE_DONE, release_sheet_withdraw(4, guarded.sheet));
+    expect_sheet("five of six", five, guarded);
+    memcpy(guarded.sheet, twice, sizeof twice);
+    expect("23", RELEASE_REFUSAL_NO_SIGNATURE, release_sheet_withdraw(4, guarded.sheet));
+    expect_sheet("a refused withdrawal writes nothing", twice, guarded);
+    expect("withdraw", RELEASE_DONE, release_sheet_withdraw(1, guarded.sheet));
+    expect_sheet("one of three", one, guarded);
+    expect("23", RELEASE_REFUSAL_NO_SIGNATURE, release_sheet_withdraw(1, guarded.sheet));
+}
+
 /* Sheets that claim as many entries as there can be, and more, of users that
    the shop doesn't have. */
 static void full_sheets(void) {
@@ -429,6 +474,8 @@ static void unaligned(void) {
         expect("sign", 0, release_sheet_sign(base + at, SHOP, 0, 0, sheet + at));
         expect("sign", 0, release_sheet_sign(base + at, SHOP, 1, 1, sheet + at));
         expect("ask", 0, release_sheet_ask(base + at, SHOP, 480, 0, 0, sheet + at));
+        expect("withdraw", 0, release_sheet_withdraw(0, sheet + at));
+        expect("the buyer moves up", 1, sheet[at + RELEASE_SHEET_ENTRIES]);
     }
 }
 
@@ -447,6 +494,8 @@ int main(void) {
     bounds();
     openings();
     signings();
+    withdrawals();
+    other_sheets();
     full_sheets();
     askings();
     nulls();

@@ -78,8 +78,15 @@ fn every_other_call_in_32_kib() {
     let shifted = within(LITTLE, || bound_bytes(&SMALL_SHOP, 2, 5, &[0, 0, 1, 1]));
     assert_eq!(shifted, Ok(8));
     let sheet = within(LITTLE, || signed_sheet(&out_of_reach())).expect("it is signed");
+    let mut withdrawn = sheet.clone();
     let asked = within(LITTLE, move || sheet.ask(&out_of_reach(), EARLY));
     assert_eq!(asked, Err(Refusal::Condition));
+    let users = within(LITTLE, move || {
+        let answers = [withdrawn.withdraw(0), withdrawn.withdraw(0)];
+        (answers, withdrawn.entries().collect::<Vec<_>>())
+    });
+    let answers = [Ok(()), Err(Refusal::NoSignature)];
+    assert_eq!(users, (answers, vec![Entry::new(1, 1)]));
 }
 
 #[test]
@@ -112,7 +119,7 @@ fn many_bounds_at_once() {
     });
 }
 
-/// Each asks the same sheet and signs one of its own.
+/// Each asks the same sheet, signs one of its own and withdraws from it.
 #[test]
 fn many_sheets_at_once() {
     let shared = signed_sheet(&SMALL_SHOP).expect("it is signed");
@@ -121,7 +128,10 @@ fn many_sheets_at_once() {
             scope.spawn(|| {
                 for _ in 0..200 {
                     assert_eq!(shared.ask(&SMALL_SHOP, EARLY), Ok(()));
-                    assert_eq!(signed_sheet(&SMALL_SHOP).as_ref(), Ok(&shared));
+                    let mut own = signed_sheet(&SMALL_SHOP).expect("it is signed");
+                    assert_eq!(own, shared);
+                    assert_eq!(own.withdraw(0), Ok(()));
+                    assert!(own.entries().eq([Entry::new(1, 1)]));
                 }
             });
         }

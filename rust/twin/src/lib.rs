@@ -30,7 +30,7 @@ use resolution::Rules;
 use weights::{Setting, Weights};
 
 pub use bound::bound;
-pub use sheet::{sheet_ask, sheet_open, sheet_sign};
+pub use sheet::{sheet_ask, sheet_open, sheet_sign, sheet_withdraw};
 
 /// The identity codes of roles 0 to 7.
 const CODES: [u32; 8] = [3, 5, 7, 11, 13, 17, 19, 23];

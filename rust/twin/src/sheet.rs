@@ -35,6 +35,26 @@ pub fn sheet_sign(base: &[u8], user: u32, role: u32, sheet: &mut Sheet) -> u8 {
     0
 }
 
+/// Takes the user's entries out: those behind move up, and the bytes left over
+/// are 0. Where there is none it is 23, and each entry stays in its place.
+pub fn sheet_withdraw(user: u32, sheet: &mut Sheet) -> u8 {
+    let [_, claimed, entries @ ..] = sheet;
+    let entries = entries.as_chunks_mut().0;
+    let count = usize::from(*claimed).min(MOST);
+    let mut staying = 0;
+    for place in 0..count {
+        let entry: [u8; 2] = entries[place];
+        entries[staying] = entry;
+        staying += usize::from(u32::from(entry[0]) != user);
+    }
+    if staying == count {
+        return 23;
+    }
+    *claimed = staying as u8;
+    entries[staying..].fill([0; 2]);
+    0
+}
+
 /// The decision for the sheet's permission and the entries held.
 pub fn sheet_ask(base: &[u8], at: Context, sheet: &Sheet) -> u8 {
     decide(base, sheet[0].into(), at, held(sheet).as_flattened())
@@ -63,4 +83,26 @@ fn new_entry(base: &[u8], user: u32, role: u32, held: &[[u8; 2]]) -> Result<[u8;
         return Err(20);
     }
     Ok(entry)
+}
+
+#[cfg(test)]
+mod tests {
+    use super::*;
+
+    /// Every claim, and every way in which user 1 can stand among six entries.
+    #[test]
+    fn a_withdrawal_is_the_models() {
+        for claimed in 0..=255 {
+            for places in 0..64 {
+                let mut sheet = [9, claimed, 0, 10, 0, 11, 0, 12, 0, 13, 0, 14, 0, 15];
+                (0..MOST).for_each(|place| sheet[2 + 2 * place] = places >> place & 1);
+                for user in [0, 1, 2, 10, 256, 257, u32::MAX] {
+                    let (mut by_twin, mut by_model) = (sheet, sheet);
+                    let answer = sheet_withdraw(user, &mut by_twin);
+                    assert_eq!(answer, model::sheet_withdraw(user, &mut by_model));
+                    assert_eq!(by_twin, by_model, "{user} of {sheet:?}");
+                }
+            }
+        }
+    }
 }

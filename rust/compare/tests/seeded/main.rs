@@ -14,6 +14,7 @@ mod seen;
 mod sheets;
 mod shifts;
 mod shifts_by_lists;
+mod withdrawn;
 
 use std::time::{Duration, Instant};
 

@@ -102,10 +102,10 @@ fn conflicts_that_differ(reading: Reading) -> usize {
     found
 }
 
-/// How many openings, signings and askings of a sheet have another answer, or
-/// leave another sheet, by the library than by the model's reading.
-fn sheets_that_differ(reading: Reading) -> [usize; 3] {
-    let mut found = [0; 3];
+/// How many openings, signings, withdrawals and askings of a sheet have another
+/// answer, or leave another sheet, by the library than by the model's reading.
+fn sheets_that_differ(reading: Reading) -> [usize; 4] {
+    let mut found = [0; 4];
     let mut compare = |base: &[u8], call: SheetCall, sheet: &mut Sheet| {
         let mut by_model = *sheet;
         let answer = call.by_model(reading, base, &mut by_model);
@@ -172,12 +172,13 @@ fn shows(reading: Reading) -> &'static [&'static str] {
         Reading::HeaviestUsers => &["reports", "reports by lists"],
         Reading::MixedContextClauses => OF_CONTEXTS,
         Reading::PermissionKept => &["openings"],
-        Reading::OverSixAsNone => &["signings", "askings"],
+        Reading::OverSixAsNone => &["signings", "withdrawals", "askings"],
         Reading::HeldAlone | Reading::DirectJuniors | Reading::SeniorsToo => OF_ACTING,
         Reading::ListAfterPermission => &["decisions by lists"],
         Reading::ListIgnored => &["reports by lists"],
         _ if Reading::WRONG_IN_LISTS.contains(&reading) => &["conflicts"],
         _ if Reading::WRONG_ON_SHEETS.contains(&reading) => &["signings"],
+        _ if Reading::WRONG_OF_WITHDRAWAL.contains(&reading) => &["withdrawals"],
         _ if Reading::WRONG_OF_BOUNDS.contains(&reading) => &["bounds"],
         _ if Reading::WRONG_OF_RESOLUTION.contains(&reading) => {
             &["decisions by lists", "reports by lists"]
@@ -187,13 +188,14 @@ fn shows(reading: Reading) -> &'static [&'static str] {
 }
 
 fn expect(reading: Reading) {
-    let [openings, signings, askings] = sheets_that_differ(reading);
+    let [openings, signings, withdrawals, askings] = sheets_that_differ(reading);
     let found = [
         ("decisions", decisions_that_differ(reading)),
         ("reports", reports_that_differ(reading)),
         ("conflicts", conflicts_that_differ(reading)),
         ("openings", openings),
         ("signings", signings),
+        ("withdrawals", withdrawals),
         ("askings", askings),
         ("bounds", bounds_that_differ(reading)),
         ("decisions by lists", decisions_by_that_differ(reading)),
@@ -218,4 +220,5 @@ fn every_wrong_reading_is_noticed() {
     Reading::WRONG_OF_ACTING.into_iter().for_each(expect);
     Reading::WRONG_OF_BOUNDS.into_iter().for_each(expect);
     Reading::WRONG_OF_RESOLUTION.into_iter().for_each(expect);
+    Reading::WRONG_OF_WITHDRAWAL.into_iter().for_each(expect);
 }

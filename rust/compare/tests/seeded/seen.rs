@@ -1,6 +1,6 @@
 //! How often each answer, number of approvers, kind of conflict, number of
-//! signatures and bound was seen, how far below their roles users acted, and
-//! what resolution lists decided.
+//! signatures and bound was seen, how far below their roles users acted, what
+//! resolution lists decided, and who withdrew.
 
 use std::io::Write;
 use std::time::Duration;
@@ -9,6 +9,7 @@ use compare::acting::Gain;
 use compare::tally::Tally;
 
 use crate::listed::Listed;
+use crate::withdrawn::Withdrawn;
 
 /// The library's calls.
 #[derive(Clone, Copy)]
@@ -19,16 +20,17 @@ pub enum Call {
     Conflicts,
     Open,
     Sign,
+    Withdraw,
     Ask,
     Bound,
     DecideBy,
     ReportBy,
 }
 
-const CALLS: usize = 10;
+const CALLS: usize = 11;
 
 /// One past the last refusal's number.
-const REFUSALS: usize = 23;
+const REFUSALS: usize = 24;
 
 const NAMES: [&str; CALLS] = [
     "check",
@@ -37,6 +39,7 @@ const NAMES: [&str; CALLS] = [
     "conflicts",
     "open",
     "sign",
+    "withdraw",
     "ask",
     "bound",
     "decide_by",
@@ -51,6 +54,7 @@ const ANSWERS: [&[u8]; CALLS] = [
     &[0, 1, 2, 3, 4, 5, 6, 7, 8, 9, 18],
     &[0, 1, 2, 3, 4, 5, 6, 7, 8, 9, 10],
     &[0, 1, 2, 3, 4, 5, 6, 7, 8, 9, 13, 14, 15, 20],
+    &[0, 23],
     &[0, 1, 2, 3, 4, 5, 6, 7, 8, 9, 10, 11, 12, 13, 14, 15, 16, 17],
     &[0, 1, 2, 3, 4, 5, 6, 7, 8, 9, 12, 13, 14, 15, 21],
     &[
@@ -59,8 +63,7 @@ const ANSWERS: [&[u8]; CALLS] = [
     &[0, 1, 2, 3, 4, 5, 6, 7, 8, 9, 22, 11, 19],
 ];
 
-/// Those that a sheet can get that openings and signings made: no user signs
-/// it twice.
+/// Those that a sheet can get that calls made: no user stands on it twice.
 const ANSWERS_TO_MADE: &[u8] = &[0, 1, 2, 3, 4, 5, 6, 7, 8, 9, 10, 11, 12, 13, 15, 16, 17];
 
 const NUMBERS: &[u8] = &[0, 1, 2, 3, 4, 5, 6];
@@ -78,9 +81,9 @@ const GAINS: [(Gain, &str); 3] = [
     (Gain::Group, "a group only by acting below a role held"),
 ];
 
-/// The fewest cases of each call: 800,000 and more in all.
+/// The fewest cases of each call: 900,000 and more in all.
 const FEWEST: [usize; CALLS] = [
-    100_000, 150_000, 20_000, 40_000, 20_000, 100_000, 100_000, 100_000, 150_000, 30_000,
+    100_000, 150_000, 20_000, 40_000, 20_000, 100_000, 100_000, 100_000, 100_000, 150_000, 30_000,
 ];
 
 #[derive(Default)]
@@ -100,6 +103,7 @@ pub struct Seen {
     bounded: Tally<8>,
     reached: Tally<8>,
     pub lists: Listed,
+    pub withdrawn: Withdrawn,
 }
 
 impl Seen {
@@ -222,6 +226,7 @@ impl Seen {
             .chain(acting)
             .chain(gains)
             .chain(self.lists.lines())
+            .chain(self.withdrawn.lines())
             .chain([last])
             .collect();
         let text = format!("\n{}\n", lines.join("\n"));
@@ -251,6 +256,7 @@ impl Seen {
         self.gains.expect_exactly("gain", &gains);
         self.bounds.expect_exactly("bound", BOUNDS);
         self.lists.expect_all();
+        self.withdrawn.expect_all();
     }
 }
 

@@ -3,45 +3,6 @@
 
 use crate::setups::*;
 use compare::builder::*;
-use compare::lent::Lent;
-use compare::questions::at_minute;
-use compare::random::Random;
-use compare::sheets::{agreed_call, SheetCall};
-
-/// Makes these calls on one sheet and expects their answers.
-struct Day {
-    lent: Lent,
-}
-
-impl Day {
-    fn new() -> Day {
-        Day {
-            lent: Lent::noisy(&mut Random::new(7), 14),
-        }
-    }
-
-    fn expect(&mut self, base: &BaseBuilder, call: SheetCall, answer: u8) {
-        let agreed = agreed_call(&base.bytes(), call, &mut self.lent);
-        assert_eq!(agreed, answer, "{call:?}");
-    }
-
-    fn open(&mut self, base: &BaseBuilder, permission: u32, answer: u8) {
-        self.expect(base, SheetCall::Open { permission }, answer);
-    }
-
-    fn sign(&mut self, base: &BaseBuilder, user: u32, role: u32, answer: u8) {
-        self.expect(base, SheetCall::Sign { user, role }, answer);
-    }
-
-    fn ask(&mut self, base: &BaseBuilder, answer: u8) {
-        let at = at_minute(600);
-        self.expect(base, SheetCall::Ask { at }, answer);
-    }
-
-    fn holds(&mut self, permission: u8, entries: &[[u8; 2]]) {
-        assert_eq!(*self.lent.sheet(), sheet(permission, entries));
-    }
-}
 
 /// The base with this parameter for a user.
 fn with_parameter(user: usize, parameter: u32) -> BaseBuilder {

@@ -9,3 +9,4 @@ mod openings;
 mod order;
 mod setups;
 mod signings;
+mod withdrawals;

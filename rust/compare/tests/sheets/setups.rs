@@ -1,8 +1,10 @@
 //! Bases and sheets that the edges start from, and what is expected of calls.
 
 use compare::builder::*;
+use compare::lent::Lent;
 use compare::questions::at_minute;
-use compare::sheets::{expect_call, SheetCall};
+use compare::random::Random;
+use compare::sheets::{agreed_call, expect_call, SheetCall};
 pub use compare::shop::refused_bases;
 use model::{Context, Sheet};
 
@@ -72,6 +74,16 @@ pub fn expect_refused(base: &[u8], user: u32, role: u32, sheet: Sheet, refusal: 
     expect_call(base, call, sheet, refusal, sheet);
 }
 
+/// Expects a withdrawal to be done, with this sheet before and after.
+pub fn expect_withdrawn(user: u32, before: Sheet, after: Sheet) {
+    expect_call(&[], SheetCall::Withdraw { user }, before, 0, after);
+}
+
+/// Expects a withdrawal to be refused by 23; no byte of the sheet changes.
+pub fn expect_no_entry(user: u32, sheet: Sheet) {
+    expect_call(&[], SheetCall::Withdraw { user }, sheet, 23, sheet);
+}
+
 /// Expects this answer at minute 600.
 pub fn expect_ask(base: &[u8], sheet: Sheet, answer: u8) {
     expect_ask_at(base, at_minute(600), sheet, answer);
@@ -86,3 +98,42 @@ pub fn expect_ask_at(base: &[u8], at: Context, sheet: Sheet, answer: u8) {
 pub const MANAGER: [u8; 2] = [0, 0];
 pub const BUYER: [u8; 2] = [1, 1];
 pub const CLERK: [u8; 2] = [2, 2];
+
+/// Makes these calls on one sheet and expects their answers.
+pub struct Day {
+    lent: Lent,
+}
+
+impl Day {
+    pub fn new() -> Day {
+        Day {
+            lent: Lent::noisy(&mut Random::new(7), 14),
+        }
+    }
+
+    fn expect(&mut self, base: &[u8], call: SheetCall, answer: u8) {
+        let agreed = agreed_call(base, call, &mut self.lent);
+        assert_eq!(agreed, answer, "{call:?}");
+    }
+
+    pub fn open(&mut self, base: &BaseBuilder, permission: u32, answer: u8) {
+        self.expect(&base.bytes(), SheetCall::Open { permission }, answer);
+    }
+
+    pub fn sign(&mut self, base: &BaseBuilder, user: u32, role: u32, answer: u8) {
+        self.expect(&base.bytes(), SheetCall::Sign { user, role }, answer);
+    }
+
+    pub fn withdraw(&mut self, user: u32, answer: u8) {
+        self.expect(&[], SheetCall::Withdraw { user }, answer);
+    }
+
+    pub fn ask(&mut self, base: &BaseBuilder, answer: u8) {
+        let at = at_minute(600);
+        self.expect(&base.bytes(), SheetCall::Ask { at }, answer);
+    }
+
+    pub fn holds(&mut self, permission: u8, entries: &[[u8; 2]]) {
+        assert_eq!(*self.lent.sheet(), sheet(permission, entries));
+    }
+}
