@@ -2,3 +2,4 @@ pub mod Marked
 pub mod Reached
 pub mod Resolved
 pub mod Overridden
+pub mod TakenBack
