@@ -153,8 +153,8 @@ pub extern "C" fn release_sheet_sign(base: &[u8], user: u32, role: u32, sheet: &
     0
 }
 
-// Withdrawing a user from a sheet: 0, and the sheet without the user's entries, or 23 where the user has none on it,
-// and no byte changed. No base is consulted.
+// Withdrawing a user from a sheet: 0, and the sheet with the other entries alone, every byte behind them 0, or 23 where
+// the user has none of the entries that it holds, and no byte changed. No base is consulted.
 #[no_mangle]
 pub extern "C" fn release_sheet_withdraw(user: u32, sheet: &mut [u8; 14]) -> u32
     ensures outcome { λ r. ⌜

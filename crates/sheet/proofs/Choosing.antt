@@ -1,10 +1,10 @@
 -- Those of a list of signings of which a test holds: their entries, their number and their users.
 use Prim.Native.Nat.{ℕ, zero, suc, _<_, _≤_}
-use mathlib.Core.Bool.{Bool, true, false, _||_, not, cond, false≢true}
+use mathlib.Core.Bool.{Bool, true, false, _&&_, _||_, not, cond, false≢true}
 use mathlib.Core.Path.{_≡_, refl, sym, ap, _∙_}
 use mathlib.Core.List.{List, [], _∷_, _++_}
 use native.Mathlib.Omega.{arith}
-use borrow.Author.Tests.{eqb-false}
+use borrow.Author.Tests.{eqb-true, eqb-false, ne-eqb}
 use lib.ListN.{length}
 use lib.Dec.{eqb}
 use Rattle.folds.proofs.Bools.{or-neither, eqb-sym}
@@ -28,6 +28,18 @@ module _ (test : Signing → Bool) where
   unfolding those
   those-all [] h = refl
   those-all (x ∷ xs) h = rw (h x) (ap (λ (l : List Signing). x ∷ l) (those-all xs h))
+
+  -- those of those of which another test holds
+  pub those-both : (other both : Signing → Bool) → ((x : Signing) → both x ≡ (test x && other x)) →
+      (xs : List Signing) → those other (those test xs) ≡ those both xs
+  unfolding those
+  those-both other both h [] = refl
+  those-both other both h (x ∷ xs) = by (test x) (h x) (those-both other both h xs)
+    where
+      by : (t : Bool) → both x ≡ (t && other x) → those other (those test xs) ≡ those both xs →
+          those other (cond t (x ∷ those test xs) (those test xs)) ≡ cond (both x) (x ∷ those both xs) (those both xs)
+      by true k e = rw (k, e)
+      by false k e = rw (k, e)
 
   pub those-append : (xs ys : List Signing) → those test (xs ++ ys) ≡ those test xs ++ those test ys
   unfolding those
@@ -79,6 +91,17 @@ others-unsigned u (x ∷ xs) = by (eqb (x .user) u) refl (others-unsigned u xs)
         signedBy (cond (not t) (x ∷ those (another u) xs) (those (another u) xs)) u ≡ false
     by true h e = e
     by false h e = or-neither h e
+
+-- one by a user other than u stays
+pub others-signed : (u v : ℕ) → (v ≡ u → ⊥) → (xs : List Signing) → signedBy (those (another u) xs) v ≡ signedBy xs v
+unfolding those signedBy
+others-signed u v ne [] = refl
+others-signed u v ne (x ∷ xs) = by (eqb (x .user) u) refl (others-signed u v ne xs)
+  where
+    by : (t : Bool) → eqb (x .user) u ≡ t → signedBy (those (another u) xs) v ≡ signedBy xs v →
+        signedBy (cond (not t) (x ∷ those (another u) xs) (those (another u) xs)) v ≡ (eqb (x .user) v || signedBy xs v)
+    by true h e = let own = eqb-true (x .user) u h in rw (ne-eqb (x .user) v (λ k. ne (sym k ∙ own))) e
+    by false h e = rw e
 
 -- where u signed one of them, fewer are by another
 pub others-fewer : (u : ℕ) (xs : List Signing) → signedBy xs u ≡ true → length (those (another u) xs) < length xs

@@ -12,8 +12,8 @@ use lib.Dec.{eqb}
 use Rattle.folds.proofs.Bools.{met-or-not}
 use Rattle.sheet.specs.declared.Sheet.{Sheet}
 use Rattle.sheet.specs.Signings.{Signing, signedBy, acceptable, acceptedAfter, accepted, sheetWith}
-use Rattle.sheet.specs.Events.{Event, signs, withdraws, takesBack, takenBack, Signature, standing, newIn}
-use Rattle.sheet.specs.Events.{later, signaturesAfter, signatures, heldAfter, isDone, called, afterAll}
+use Rattle.sheet.specs.Events.{Event, signs, withdraws, takesBack, takenBack, Signature, signingOf, standing}
+use Rattle.sheet.specs.Events.{newIn, later, signaturesAfter, signatures, heldAfter, isDone, called, afterAll}
 use Rattle.sheet.specs.Events.{signingIn, answeredDone}
 use Rattle.sheet.proofs.Accepting.{done-acceptable, signed-accepted, signed-unaccepted, few-more, new-user}
 use Rattle.sheet.proofs.Withdrawing.{withdrawn-signed, withdrawn-others}
@@ -70,7 +70,7 @@ module _ (before : List Signature) where
   abbrev held : List Signing
   held = standing before
 
-  standing-step : (e : Event) → standing (step before e) ≡ those (stays e) held ++ standing (newIn held e)
+  pub standing-step : (e : Event) → standing (step before e) ≡ those (stays e) held ++ standing (newIn held e)
   standing-step e =
       standing-append (map (later e) before) (newIn held e)
       ∙ ap (λ (l : List Signing). l ++ standing (newIn held e)) (standing-later e before)
@@ -82,12 +82,12 @@ module _ (before : List Signature) where
   abbrev only : Signing → Bool → List Signing
   only x t = cond t (x ∷ []) []
 
-  new-stands : (x : Signing) (t : Bool) → standing (new x t) ≡ only x t
+  pub new-stands : (x : Signing) (t : Bool) → standing (new x t) ≡ only x t
   unfolding standing takenBack
   new-stands x true = refl
   new-stands x false = refl
 
-  pub standing-signs : (x : Signing) → standing (step before (signs x)) ≡ held ++ only x (acceptable held x)
+  standing-signs : (x : Signing) → standing (step before (signs x)) ≡ held ++ only x (acceptable held x)
   unfolding takesBack newIn
   standing-signs x =
       standing-step (signs x)
@@ -105,13 +105,13 @@ module _ (before : List Signature) where
   unfolding takesBack newIn standing
   standing-withdraws u = standing-step (withdraws u) ∙ append-nil (those (another u) held)
 
--- at most six signings, of different users
-pub record Fine (xs : List Signing) : Type 0 where
+-- what a sheet can hold: at most six signings, of different users
+pub record Holdable (xs : List Signing) : Type 0 where
   pub few : length xs ≤ 6
   pub distinct : Distinct xs
 
 -- one event on a sheet that holds what stands
-module _ (p : ℕ) (before : List Signature) (fine : Fine (standing before)) where
+module _ (p : ℕ) (before : List Signature) (able : Holdable (standing before)) where
   abbrev sheet : Sheet
   sheet = sheetWith p (standing before)
 
@@ -120,20 +120,20 @@ module _ (p : ℕ) (before : List Signature) (fine : Fine (standing before)) whe
   one-held (signs x) =
       ⊎-elim
       (λ h.
-      signed-accepted p (standing before) x (fine .few) h ∙ ap (sheetWith p) (sym (standing-accepted before x h)))
+      signed-accepted p (standing before) x (able .few) h ∙ ap (sheetWith p) (sym (standing-accepted before x h)))
       (λ h.
-      signed-unaccepted p (standing before) x (fine .few) h ∙ ap (sheetWith p) (sym (standing-unaccepted before x h)))
+      signed-unaccepted p (standing before) x (able .few) h ∙ ap (sheetWith p) (sym (standing-unaccepted before x h)))
       (met-or-not (acceptable (standing before) x))
   one-held (withdraws u) =
-      withdrawn-others p (standing before) u (fine .few) ∙ ap (sheetWith p) (sym (standing-withdraws before u))
+      withdrawn-others p (standing before) u (able .few) ∙ ap (sheetWith p) (sym (standing-withdraws before u))
 
   pub one-done : (e : Event) → eqb (called sheet e .refusal) 0 ≡ isDone (standing before) e
   unfolding called isDone
-  one-done (signs x) = done-acceptable p (standing before) x (fine .few)
-  one-done (withdraws u) = withdrawn-signed p (standing before) u (fine .few)
+  one-done (signs x) = done-acceptable p (standing before) x (able .few)
+  one-done (withdraws u) = withdrawn-signed p (standing before) u (able .few)
 
-one-fine : (before : List Signature) (e : Event) → Fine (standing before) → Fine (standing (step before e))
-one-fine before (signs x) f =
+one-holdable : (before : List Signature) (e : Event) → Holdable (standing before) → Holdable (standing (step before e))
+one-holdable before (signs x) f =
     ⊎-elim
     (λ h.
     rw (standing-accepted before x h)
@@ -143,7 +143,7 @@ one-fine before (signs x) f =
     }))
     (λ h. rw (standing-unaccepted before x h) f)
     (met-or-not (acceptable (standing before) x))
-one-fine before (withdraws u) f =
+one-holdable before (withdraws u) f =
     rw (standing-withdraws before u)
     (record {
       few = le-trans (those-few (another u) (standing before)) (f .few);
@@ -151,9 +151,6 @@ one-fine before (withdraws u) f =
     })
 
 -- the signings of the signatures are those that were done
-abbrev pub signingOf : Signature → Signing
-signingOf x = x .signing
-
 signings-step : (before : List Signature) (e : Event) →
     map signingOf (step before e) ≡
     map signingOf before ++ cond (isDone (standing before) e) (signingIn e) []
@@ -176,23 +173,23 @@ signings-step before e =
     by (withdraws u) = none (signedBy (standing before) u)
 
 -- a list of events, those of `before` having been accepted
-pub all-fine : (es : List Event) (before : List Signature) → Fine (standing before) →
-    Fine (standing (signaturesAfter before es))
+pub all-holdable : (es : List Event) (before : List Signature) → Holdable (standing before) →
+    Holdable (standing (signaturesAfter before es))
 unfolding signaturesAfter
-all-fine [] before f = f
-all-fine (e ∷ es) before f = all-fine es (step before e) (one-fine before e f)
+all-holdable [] before f = f
+all-holdable (e ∷ es) before f = all-holdable es (step before e) (one-holdable before e f)
 
 module _ (p : ℕ) where
   -- the sheet holds what stands
-  pub all-held : (es : List Event) (before : List Signature) → Fine (standing before) →
+  pub all-held : (es : List Event) (before : List Signature) → Holdable (standing before) →
       afterAll (sheetWith p (standing before)) es ≡ sheetWith p (standing (signaturesAfter before es))
   unfolding afterAll signaturesAfter
   all-held [] before f = refl
   all-held (e ∷ es) before f =
-      ap (λ (s : Sheet). afterAll s es) (one-held p before f e) ∙ all-held es (step before e) (one-fine before e f)
+      ap (λ (s : Sheet). afterAll s es) (one-held p before f e) ∙ all-held es (step before e) (one-holdable before e f)
 
   -- the calls answer 0 to the signings that are accepted and to no other
-  pub all-done : (es : List Event) (before : List Signature) → Fine (standing before) →
+  pub all-done : (es : List Event) (before : List Signature) → Holdable (standing before) →
       map signingOf before ++ answeredDone (sheetWith p (standing before)) es ≡
       map signingOf (signaturesAfter before es)
   unfolding answeredDone signaturesAfter
@@ -206,7 +203,7 @@ module _ (p : ℕ) where
       ∙ ap (λ (t : Bool). (accepted ++ done t) ++ rest (called sheet e .sheet)) (one-done p before f e)
       ∙ ap (λ (s : Sheet). (accepted ++ done (isDone (standing before) e)) ++ rest s) (one-held p before f e)
       ∙ ap (λ (l : List Signing). l ++ rest (sheetWith p (standing (step before e)))) (sym (signings-step before e))
-      ∙ all-done es (step before e) (one-fine before e f)
+      ∙ all-done es (step before e) (one-holdable before e f)
 
 -- without withdrawals, what stands and what was done are request One's accepted ones: both grow by a signing that is
 -- accepted

@@ -4,6 +4,7 @@ pub mod Bytes
 pub mod Choosing
 pub mod Happening
 pub mod Holding
+pub mod Lasting
 pub mod Making
 pub mod Passing
 pub mod Standing

@@ -1,9 +1,10 @@
 -- The laws of new sheets and of the sheets that calls made.
 use Prim.Native.Nat.{ℕ, _+_, _*_, _-_, _≤_}
-use mathlib.Core.Bool.{true}
+use mathlib.Core.Bool.{Bool, true, false, cond}
 use mathlib.Core.Path.{_≡_, refl, sym, ap, _∙_}
 use mathlib.Core.Logic.{_↔_}
 use mathlib.Core.List.{List, [], _∷_, _++_, map}
+use native.Mathlib.Nat.{suc-ne-zero}
 use native.Mathlib.Omega.{arith}
 use borrow.Author.Tests.{eqb-true, eq-eqb, ne-eqb}
 use lib.ListN.{length, getD, replicate}
@@ -15,23 +16,28 @@ use Rattle.decision.specs.Groups.{entryCount}
 use Rattle.decision.specs.Decision.{decisionOf}
 use Rattle.sheet.specs.declared.Sheet.{Sheet}
 use Rattle.sheet.specs.Sheets.{heldOn, holding, openRefusal, openedFor, opened, signed, withdrawn, asked}
-use Rattle.sheet.specs.Signings.{Signing, accepted, entriesOf, sheetWith}
-use Rattle.sheet.specs.Events.{Event, signs, withdraws, standing, signatures, heldAfter, isDone, called, afterAll}
-use Rattle.sheet.specs.Events.{answeredDone, Made, Orderly}
+use Rattle.sheet.specs.Signings.{Signing, signedBy, accepted, entriesOf, sheetWith}
+use Rattle.sheet.specs.Events.{Event, signs, withdraws, signingOf, standing, signatures, heldAfter, isDone}
+use Rattle.sheet.specs.Events.{called, afterAll, answeredDone, Made, Orderly}
 use Rattle.sheet.specs.Form.{bytesOf, bytesAfterAll}
 use Rattle.sheet.proofs.Holding.{holding-count, holding-size}
 use Rattle.sheet.proofs.Standing.{entries-length, entries-count, held-with}
 use Rattle.sheet.proofs.Choosing.{distinct-differ}
-use Rattle.sheet.proofs.Happening.{Fine, signingOf, one-done, all-fine, all-held, all-done}
+use Rattle.sheet.proofs.Withdrawing.{withdrawn-answer}
+use Rattle.sheet.proofs.Happening.{Holdable, one-done, all-holdable, all-held, all-done}
 use Rattle.sheet.proofs.Happening.{accepted-stand, accepted-done}
 
-nothing-fine : Fine (standing [])
+nothing-holdable : Holdable (standing [])
 unfolding standing
-nothing-fine = record { few = omega arith; distinct = tt }
+nothing-holdable = record { few = omega arith; distinct = tt }
 
 -- what a new sheet holds after a list of events is at most six signings, of different users
-pub held-fine : (es : List Event) → Fine (heldAfter es)
-held-fine es = all-fine es [] nothing-fine
+pub held-holdable : (es : List Event) → Holdable (heldAfter es)
+held-holdable es = all-holdable es [] nothing-holdable
+
+none-signed : (t : Bool) → _≡_ {A = ℕ} (cond t 0 23) 23 → t ≡ false
+none-signed true h = absurd (suc-ne-zero 22 (sym h))
+none-signed false h = refl
 
 -- a new sheet is for the permission asked for where the opening is done, else for permission 255; it holds nothing
 module _ (b : List ℕ) (p : ℕ) where
@@ -51,14 +57,14 @@ module _ (b : List ℕ) (p : ℕ) where
     -- over every list of signings and withdrawals on a new sheet, it holds each accepted signature not withdrawn since,
     -- in order of acceptance, and its unused bytes are 0
     pub sheet-held : afterAll (opened b p .sheet) es ≡ sheetWith (openedFor b p) (heldAfter es)
-    sheet-held = ap (λ (s : Sheet). afterAll s es) opened-new ∙ all-held (openedFor b p) es [] nothing-fine
+    sheet-held = ap (λ (s : Sheet). afterAll s es) opened-new ∙ all-held (openedFor b p) es [] nothing-holdable
 
     pub entries-held : heldOn (afterAll (opened b p .sheet) es) ≡ entriesOf (heldAfter es)
-    entries-held = ap heldOn sheet-held ∙ held-with (openedFor b p) (heldAfter es) (held-fine es .few)
+    entries-held = ap heldOn sheet-held ∙ held-with (openedFor b p) (heldAfter es) (held-holdable es .few)
 
     -- the signings to which the calls answer 0 are the accepted ones
     pub done-signatures : answeredDone (opened b p .sheet) es ≡ map signingOf (signatures es)
-    done-signatures = ap (λ (s : Sheet). answeredDone s es) opened-new ∙ all-done (openedFor b p) es [] nothing-fine
+    done-signatures = ap (λ (s : Sheet). answeredDone s es) opened-new ∙ all-done (openedFor b p) es [] nothing-holdable
 
     -- to the next event the call answers 0 exactly if a signing is accepted, or a withdrawal finds its user's signature
     pub next-done : (e : Event) →
@@ -66,8 +72,17 @@ module _ (b : List ℕ) (p : ℕ) where
     next-done e =
         let is : eqb (called (afterAll (opened b p .sheet) es) e .refusal) 0 ≡ isDone (heldAfter es) e =
         ap (λ (s : Sheet). eqb (called s e .refusal) 0) sheet-held
-        ∙ one-done (openedFor b p) (signatures es) (held-fine es) e in
+        ∙ one-done (openedFor b p) (signatures es) (held-holdable es) e in
         (λ h. sym is ∙ eq-eqb _ _ h, λ h. eqb-true _ _ (is ∙ h))
+
+    -- a withdrawal that finds none is answered 23
+    pub next-23 : (u : ℕ) →
+        (withdrawn (afterAll (opened b p .sheet) es) u .refusal ≡ 23) ↔ (signedBy (heldAfter es) u ≡ false)
+    next-23 u =
+        let is : withdrawn (afterAll (opened b p .sheet) es) u .refusal ≡ cond (signedBy (heldAfter es) u) 0 23 =
+        ap (λ (s : Sheet). withdrawn s u .refusal) sheet-held
+        ∙ withdrawn-answer (openedFor b p) (heldAfter es) u (held-holdable es .few) in
+        (λ h. none-signed (signedBy (heldAfter es) u) (sym is ∙ h), λ h. is ∙ ap (λ (t : Bool). cond t 0 23) h)
 
   -- request One's: after every list of signings alone it holds exactly the accepted ones, to which `sign` answers 0
   module _ (xs : List Signing) where
@@ -108,10 +123,7 @@ made-withdraw s m u = made-called s m (withdraws u)
 
 -- a made sheet holds what stands after the events that made it
 module _ {s : Sheet} (m : Made s) where
-  abbrev pub heldOf : List Signing
-  heldOf = heldAfter (m .events)
-
-  pub made-is : s ≡ sheetWith (openedFor (m .base) (m .permission)) heldOf
+  pub made-is : s ≡ sheetWith (openedFor (m .base) (m .permission)) (heldAfter (m .events))
   made-is = m .is ∙ sheet-held (m .base) (m .permission) (m .events)
 
 -- a sheet that holds at most six signings of different users is orderly
@@ -123,32 +135,32 @@ with-clear p xs i h =
     let j : i ≡ length (entriesOf xs) + (i - 2 * length xs) = omega (arith, size, h) in
     rw j (getD-append-add (entriesOf xs) (replicate n 0) (i - 2 * length xs) 0 ∙ zero-at n (i - 2 * length xs))
 
-with-orderly : (p : ℕ) (xs : List Signing) → Fine xs → Orderly (sheetWith p xs)
-with-orderly p xs fine =
-    let held = held-with p xs (fine .few) in
+with-orderly : (p : ℕ) (xs : List Signing) → Holdable xs → Orderly (sheetWith p xs)
+with-orderly p xs able =
+    let held = held-with p xs (able .few) in
     let count = holding-count p (entriesOf xs) (length xs) (entries-length xs) in
     record {
-      size = holding-size p (entriesOf xs) (length xs) (entries-length xs) (fine .few);
-      few = rw count (fine .few);
+      size = holding-size p (entriesOf xs) (length xs) (entries-length xs) (able .few);
+      few = rw count (able .few);
       counted = ap entryCount held ∙ entries-count xs ∙ sym count;
       different = λ i j l k e.
-          distinct-differ xs (fine .distinct) i j l (rw (entries-count xs) (rw count at k)) (rw held at e);
+          distinct-differ xs (able .distinct) i j l (rw (entries-count xs) (rw count at k)) (rw held at e);
       clear = λ i h. with-clear p xs i (rw count at h);
     }
 
 -- a made sheet holds at most six entries, of different users; its count is their number and its unused bytes are 0
 pub made-orderly : (s : Sheet) → Made s → Orderly s
-made-orderly s m = rw (made-is m) (with-orderly _ (heldOf m) (held-fine (m .events)))
+made-orderly s m = rw (made-is m) (with-orderly _ (heldAfter (m .events)) (held-holdable (m .events)))
 
 -- asking a made sheet is the decision for the accepted signatures not withdrawn since, in order of acceptance
 pub made-asked : (s : Sheet) (m : Made s) (b : List ℕ) (at : Context) →
-    asked b s at ≡ decisionOf b at (openedFor (m .base) (m .permission)) (entriesOf (heldOf m))
+    asked b s at ≡ decisionOf b at (openedFor (m .base) (m .permission)) (entriesOf (heldAfter (m .events)))
 unfolding holding
 made-asked s m b at =
     let held = ap heldOn (m .is) ∙ entries-held (m .base) (m .permission) (m .events) in
     let permission = ap (λ (t : Sheet). t .permission) (made-is m) in
     ap (λ (g : List ℕ). decisionOf b at (s .permission) g) held
-    ∙ ap (λ (p : ℕ). decisionOf b at p (entriesOf (heldOf m))) permission
+    ∙ ap (λ (p : ℕ). decisionOf b at p (entriesOf (heldAfter (m .events)))) permission
 
 -- the same of the 14 bytes
 bytes-after : (s : Sheet) (es : List Event) → bytesAfterAll (bytesOf s) es ≡ bytesOf (afterAll s es)

@@ -1,4 +1,4 @@
--- A signing taken back at once; and what a user meets after a withdrawal, on any sheet with room for six entries.
+-- A signing taken back at once; and what users meet after a withdrawal, on any sheet of 12 entry bytes.
 use Prim.Native.Nat.{ℕ, _*_, _-_, _<_, _≤_}
 use mathlib.Core.Bool.{true, false, or-true}
 use mathlib.Core.Path.{_≡_, refl, sym, ap, _∙_}
@@ -17,15 +17,15 @@ use Rattle.sheet.specs.declared.Sheet.{Sheet}
 use Rattle.sheet.specs.declared.Outcome.{Outcome}
 use Rattle.sheet.specs.Sheets.{heldOn, holding, standsIn, entriesWithout, signed, withdrawn}
 use Rattle.sheet.specs.Signings.{Signing, signedBy, acceptable, entriesOf, sheetWith}
-use Rattle.sheet.specs.Events.{Made}
+use Rattle.sheet.specs.Events.{Made, heldAfter}
 use Rattle.sheet.proofs.Holding.{held-few, held-length}
 use Rattle.sheet.proofs.Passing.{sign-passes, passes-sign}
 use Rattle.sheet.proofs.Standing.{entries-length, entries-count, stands-signed, held-with}
 use Rattle.sheet.proofs.Accepting.{done-acceptable, signed-accepted, few-more, new-user}
 use Rattle.sheet.proofs.Choosing.{those, another, those-append, those-few, others-all, others-unsigned}
-use Rattle.sheet.proofs.Choosing.{others-fewer, entries-staying}
+use Rattle.sheet.proofs.Choosing.{others-fewer, others-signed, entries-staying}
 use Rattle.sheet.proofs.Withdrawing.{withdrawn-refused, withdrawn-done, stands-with, left-with}
-use Rattle.sheet.proofs.Making.{made-is, heldOf, held-fine}
+use Rattle.sheet.proofs.Making.{made-is, held-holdable}
 
 -- a signing on a sheet that holds the signings xs, and the withdrawal of its user
 signed-last : (xs : List Signing) (x : Signing) → signedBy (xs ++ (x ∷ [])) (x .user) ≡ true
@@ -58,11 +58,11 @@ pub back-at-once : (s : Sheet) → Made s → (b : List ℕ) (u r : ℕ) → sig
     withdrawn (signed b s u r .sheet) u ≡ record { refusal = 0; sheet = s }
 back-at-once s m b u r done =
     let x : Signing = record { base = b; user = u; role = r } in
-    let few = held-fine (m .events) .few in
+    let few = held-holdable (m .events) .few in
     let is = made-is m in
     let answer = ap (λ (t : Sheet). signed b t u r .refusal) (sym is) ∙ done in
-    let ok = sym (done-acceptable _ (heldOf m) x few) ∙ eq-eqb _ _ answer in
-    ap (λ (t : Sheet). withdrawn (signed b t u r .sheet) u) is ∙ back-with _ (heldOf m) x few ok
+    let ok = sym (done-acceptable _ (heldAfter (m .events)) x few) ∙ eq-eqb _ _ answer in
+    ap (λ (t : Sheet). withdrawn (signed b t u r .sheet) u) is ∙ back-with _ (heldAfter (m .events)) x few ok
     ∙ ap (λ (t : Sheet). record { refusal = 0; sheet = t }) (sym is)
 
 -- any entries as signings, against no base
@@ -118,7 +118,6 @@ module _ (s : Sheet) (u : ℕ) (size : length (s .entries) ≡ 12) where
       ∙ refused s h)
       (met-or-not (standsIn (heldOn s) u))
 
-  -- and the user may sign again: neither 14 nor 20 applies
   stood : withdrawn s u .refusal ≡ 0 → standsIn (heldOn s) u ≡ true
   stood done =
       ⊎-elim (λ h. h)
@@ -131,6 +130,7 @@ module _ (s : Sheet) (u : ℕ) (size : length (s .entries) ≡ 12) where
       let signer = sym (stands-signed xs u) ∙ ap (λ (g : List ℕ). standsIn g u) (sym held-is) ∙ h in
       omega (arith, count, entries-count others, others-fewer u xs signer, few)
 
+  -- and the user may sign again: neither 14 nor 20 applies
   pub sign-again : withdrawn s u .refusal ≡ 0 → (b : List ℕ) (r : ℕ) →
       (signed b (withdrawn s u .sheet) u r .refusal ≡ 0) ↔
       ((refusalOf b ≡ 0) × (u < userCount b) × (r < roleCount b) × (mayAct b u r ≡ true))
@@ -144,3 +144,15 @@ module _ (s : Sheet) (u : ℕ) (size : length (s .entries) ≡ 12) where
             passes-sign b held u r
             (record { ok = w .0; user = w .1; role = w .2; new = new; acting = w .3; room = room-again h }),
       )
+
+  -- every other user stands there exactly if before
+  pub others-stay : (v : ℕ) → (v ≡ u → ⊥) → standsIn (heldOn (withdrawn s u .sheet)) v ≡ standsIn (heldOn s) v
+  others-stay v ne =
+      ⊎-elim
+      (λ h.
+      ap (λ (t : Sheet). standsIn (heldOn t) v) (withdrawn-is h)
+      ∙ stands-with (s .permission) others v others-few
+      ∙ others-signed u v ne xs
+      ∙ sym (ap (λ (g : List ℕ). standsIn g v) held-is ∙ stands-signed xs v))
+      (λ h. ap (λ (o : Outcome). standsIn (heldOn (o .sheet)) v) (sym (withdrawn-refused s u h)))
+      (met-or-not (standsIn (heldOn s) u))

@@ -43,10 +43,13 @@ module _ (p : ℕ) (xs : List Signing) (u : ℕ) (few : length xs ≤ 6) where
   pub stands-with : standsIn (heldOn (sheetWith p xs)) u ≡ signedBy xs u
   stands-with = ap (λ (g : List ℕ). standsIn g u) (held-with p xs few) ∙ stands-signed xs u
 
-  -- the answer is 0 exactly if one of them is by that user
-  pub withdrawn-signed : eqb (call .refusal) 0 ≡ signedBy xs u
+  -- the answer is 0 exactly if one of them is by that user, else 23
+  pub withdrawn-answer : call .refusal ≡ cond (signedBy xs u) 0 23
   unfolding withdrawn
-  withdrawn-signed = by (standsIn (heldOn (sheetWith p xs)) u) ∙ stands-with
+  withdrawn-answer = ap (λ (t : Bool). cond t 0 23) stands-with
+
+  pub withdrawn-signed : eqb (call .refusal) 0 ≡ signedBy xs u
+  withdrawn-signed = ap (λ (n : ℕ). eqb n 0) withdrawn-answer ∙ by (signedBy xs u)
     where
       by : (t : Bool) → eqb (cond t 0 23) 0 ≡ t
       by true = refl

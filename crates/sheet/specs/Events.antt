@@ -1,6 +1,6 @@
 -- What happens to a sheet and which signatures it then holds, by the requests' words; the sheets that calls made.
 use Prim.Native.Nat.{ℕ, _*_, _<_, _≤_}
-use mathlib.Core.Bool.{Bool, false, _||_, cond}
+use mathlib.Core.Bool.{Bool, false, _&&_, _||_, not, cond}
 use mathlib.Core.Path.{_≡_}
 use mathlib.Core.List.{List, [], _∷_, _++_, map}
 use lib.ListN.{length, getD}
@@ -31,6 +31,9 @@ pub record Signature : Type 0 where
   pub signing : Signing
   pub since : List Event
 
+abbrev pub signingOf : Signature → Signing
+signingOf x = x .signing
+
 -- those not withdrawn since, in order of acceptance
 unfoldable pub standing : List Signature → List Signing
 standing [] = []
@@ -58,6 +61,17 @@ signatures es = signaturesAfter [] es
 -- what the sheet holds then: each accepted signature not withdrawn since
 abbrev pub heldAfter : List Event → List Signing
 heldAfter es = standing (signatures es)
+
+-- what an event adds that stays, where these are held and es follow: a signing that is accepted and that none of them
+-- takes back
+unfoldable pub lasting : List Signing → Event → List Event → List Signing
+lasting held (signs x) es = cond (acceptable held x && not (takenBack es x)) (x ∷ []) []
+lasting held (withdraws u) es = []
+
+-- what the events behind `past` add that stays, each where a sheet holds what stands after all before it
+unfoldable pub lastingAfter : List Event → List Event → List Signing
+lastingAfter past [] = []
+lastingAfter past (e ∷ es) = lasting (heldAfter past) e es ++ lastingAfter (past ++ (e ∷ [])) es
 
 -- an event is done where these are held: a signing is accepted, a withdrawal finds a signature of its user
 unfoldable pub isDone : List Signing → Event → Bool

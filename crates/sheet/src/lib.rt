@@ -1,4 +1,5 @@
-// A sheet that collects signatures for one permission: opened, signed one by one against a base, taken back, and asked.
+// A sheet that collects signatures for one permission: opened, signed one by one against a base, asked; signatures can
+// be taken back.
 use weights::Context;
 ghost use mathlib.Core.Path.{_≡_};
 ghost use Prim.Native.Nat.{_<_};

@@ -1,7 +1,7 @@
 -- The worked sheets: by computing both sides.
 use mathlib.Core.Path.{refl}
 use Rattle.reader.specs.Bytes.{word16, word32}
-use Rattle.reader.specs.Tables.{tableOf, tableOffset, tableCount, tableStart, roleCount, userCount, permissionCount}
+use Rattle.reader.specs.Tables.{tableOf, tableOffset, tableCount, tableStart, roleCount}
 use Rattle.reader.specs.Tables.{lengthBad, lettersBad, rolesBad, reservedBad, tablesBad, trailerBad, frameRefusal}
 use Rattle.reader.specs.Codes.{codeProduct, parameterOk, heldBy}
 use Rattle.reader.specs.Rules.{hierarchyBad, usersBad, clauseSlotBad, clauseBad, clausesBad}

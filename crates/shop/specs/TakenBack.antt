@@ -17,7 +17,8 @@ signing user role = signs (record { base = shop; user = user; role = role })
 unfoldable pub morning : List Event
 unfolding shop
 morning =
-    signing 0 manager ∷ signing 2 clerk ∷ signing 1 buyer ∷ withdraws 2 ∷ withdraws 2 ∷ signing 2 clerk ∷ withdraws 0 ∷ []
+    signing 0 manager ∷ signing 2 clerk ∷ signing 1 buyer
+    ∷ withdraws 2 ∷ withdraws 2 ∷ signing 2 clerk ∷ withdraws 0 ∷ []
 
 -- the entries that stand after n of the events
 unfoldable pub standAfter : ℕ → List ℕ
