@@ -8,11 +8,11 @@ use borrow.Author.Tests.{eqb-true, eqb-false, ne-eqb}
 use lib.ListN.{length}
 use lib.Dec.{eqb}
 use Rattle.folds.proofs.Bools.{or-neither, eqb-sym}
-use Rattle.decision.specs.Groups.{entryCount, entryUser}
+use Rattle.decision.specs.Groups.{entryUser}
 use Rattle.sheet.specs.Sheets.{staying}
 use Rattle.sheet.specs.Signings.{Signing, signedBy, entriesOf}
 use Rattle.sheet.proofs.Staying.{later-user, kept, staying-first}
-use Rattle.sheet.proofs.Standing.{entries-count, first-differs, later-unsigned, each-differs}
+use Rattle.sheet.proofs.Standing.{first-differs, later-unsigned, each-differs}
 
 -- in their order
 unfoldable pub those : (Signing → Bool) → List Signing → List Signing
@@ -64,7 +64,7 @@ module _ (test : Signing → Bool) where
       by false l = omega arith
 
   -- none by a user who signed none of them
-  pub those-unsigned : (xs : List Signing) (u : ℕ) → signedBy xs u ≡ false → signedBy (those test xs) u ≡ false
+  those-unsigned : (xs : List Signing) (u : ℕ) → signedBy xs u ≡ false → signedBy (those test xs) u ≡ false
   unfolding those signedBy
   those-unsigned [] u h = refl
   those-unsigned (x ∷ xs) u h = by (test x) (those-unsigned xs u (later-unsigned x xs u h))
@@ -160,21 +160,15 @@ distinct-more (y ∷ xs) x new d =
     (signed-more xs x (y .user) (d .0) differ, distinct-more xs x (later-unsigned y xs (x .user) new) (d .1))
 
 -- then no two of their entries are of one user
-abbrev pub Differ : List ℕ → Type 0
-Differ g = (i j : ℕ) → i < j → j < entryCount g → entryUser g i ≡ entryUser g j → ⊥
-
-users-differ : (xs : List Signing) → Distinct xs → (i j : ℕ) → i < j → j < length xs →
+pub distinct-differ : (xs : List Signing) → Distinct xs → (i j : ℕ) → i < j → j < length xs →
     entryUser (entriesOf xs) i ≡ entryUser (entriesOf xs) j → ⊥
 unfolding entriesOf
-users-differ [] d i j l m e = omega arith
-users-differ (x ∷ xs) d i zero l m e = omega arith
-users-differ (x ∷ xs) d zero (suc j) l m e =
+distinct-differ [] d i j l m e = omega arith
+distinct-differ (x ∷ xs) d i zero l m e = omega arith
+distinct-differ (x ∷ xs) d zero (suc j) l m e =
     let same = later-user (x .user) (x .role) (entriesOf xs) j in
     eqb-false _ _ (each-differs xs (x .user) (d .0) j (omega arith)) (sym (e ∙ same))
-users-differ (x ∷ xs) d (suc i) (suc j) l m e =
+distinct-differ (x ∷ xs) d (suc i) (suc j) l m e =
     let first = later-user (x .user) (x .role) (entriesOf xs) i in
     let second = later-user (x .user) (x .role) (entriesOf xs) j in
-    users-differ xs (d .1) i j (omega arith) (omega arith) (sym first ∙ e ∙ second)
-
-pub distinct-differ : (xs : List Signing) → Distinct xs → Differ (entriesOf xs)
-distinct-differ xs d i j l m = users-differ xs d i j l (rw (entries-count xs) at m)
+    distinct-differ xs (d .1) i j (omega arith) (omega arith) (sym first ∙ e ∙ second)

@@ -144,7 +144,7 @@ with-orderly p xs able =
       few = rw count (able .few);
       counted = ap entryCount held ∙ entries-count xs ∙ sym count;
       different = λ i j l k e.
-          distinct-differ xs (able .distinct) i j l (rw (entries-count xs) (rw count at k)) (rw held at e);
+          distinct-differ xs (able .distinct) i j l (rw count at k) (rw held at e);
       clear = λ i h. with-clear p xs i (rw count at h);
     }
 

@@ -20,7 +20,7 @@ unfolding entriesOf
 entries-length [] = refl
 entries-length (x ∷ xs) = let e = entries-length xs in omega arith
 
-pub entries-more : (xs : List Signing) (x : Signing) →
+entries-more : (xs : List Signing) (x : Signing) →
     entriesOf (xs ++ (x ∷ [])) ≡ entriesOf xs ++ (x .user ∷ x .role ∷ [])
 unfolding entriesOf
 entries-more [] x = refl

@@ -36,10 +36,6 @@ module _ (stays : ℕ → ℕ → Bool) (held : List ℕ) where
       let one = kept-length (staysAt i) (entryUser held i) (entryRole held i) in
       length-append (joinBelow i keptAt) (keptAt i) ∙ omega (arith, one, below-length i)
 
-  pub staying-length : length (staying stays held) ≡ 2 * countBelow (entryCount held) staysAt
-  unfolding staying
-  staying-length = below-length (entryCount held)
-
   -- `left` holds those of the first i entries that stay
   pub record StayedYet (p : ℕ) (left : Sheet) (i : ℕ) : Type 0 where
     pub within : i ≤ entryCount held
