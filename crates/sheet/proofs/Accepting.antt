@@ -57,7 +57,7 @@ acceptable-passes xs x h =
       room = rw (entries-count xs) (ltb-true _ _ room);
     }
 
-pub room-left : (xs : List Signing) (x : Signing) → acceptable xs x ≡ true → length xs < 6
+room-left : (xs : List Signing) (x : Signing) → acceptable xs x ≡ true → length xs < 6
 room-left xs x h = rw (entries-count xs) at (acceptable-passes xs x h .room)
 
 pub new-user : (xs : List Signing) (x : Signing) → acceptable xs x ≡ true → signedBy xs (x .user) ≡ false

@@ -9,7 +9,7 @@ use lib.ListN.{length}
 use lib.Dec.{eqb}
 use Rattle.folds.proofs.Bools.{or-neither, eqb-sym}
 use Rattle.decision.specs.Groups.{entryUser}
-use Rattle.sheet.specs.Sheets.{staying}
+use Rattle.sheet.specs.Sheets.{staying, isAnother}
 use Rattle.sheet.specs.Signings.{Signing, signedBy, entriesOf}
 use Rattle.sheet.proofs.Staying.{later-user, kept, staying-first}
 use Rattle.sheet.proofs.Standing.{first-differs, later-unsigned, each-differs}
@@ -21,7 +21,7 @@ those test (x ∷ xs) = cond (test x) (x ∷ those test xs) (those test xs)
 
 -- a signing by another user than u
 abbrev pub another : ℕ → Signing → Bool
-another u x = not (eqb (x .user) u)
+another u x = isAnother u (x .user) (x .role)
 
 module _ (test : Signing → Bool) where
   pub those-all : (xs : List Signing) → ((x : Signing) → test x ≡ true) → those test xs ≡ xs

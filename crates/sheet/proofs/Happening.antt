@@ -66,6 +66,19 @@ standing-append (x ∷ xs) ys = by (takenBack (x .since) (x .signing)) (standing
 abbrev pub step : List Signature → Event → List Signature
 step before e = map (later e) before ++ newIn (standing before) e
 
+-- an accepted signing, since which nothing happened, stands
+module _ (x : Signing) where
+  abbrev new : Bool → List Signature
+  new t = cond t (record { signing = x; since = [] } ∷ []) []
+
+  abbrev only : Bool → List Signing
+  only t = cond t (x ∷ []) []
+
+  pub new-stands : (t : Bool) → standing (new t) ≡ only t
+  unfolding standing takenBack
+  new-stands true = refl
+  new-stands false = refl
+
 module _ (before : List Signature) where
   abbrev held : List Signing
   held = standing before
@@ -76,17 +89,6 @@ module _ (before : List Signature) where
       ∙ ap (λ (l : List Signing). l ++ standing (newIn held e)) (standing-later e before)
 
   -- a signing takes nothing back, and stands where it is accepted
-  abbrev new : Signing → Bool → List Signature
-  new x t = cond t (record { signing = x; since = [] } ∷ []) []
-
-  abbrev only : Signing → Bool → List Signing
-  only x t = cond t (x ∷ []) []
-
-  pub new-stands : (x : Signing) (t : Bool) → standing (new x t) ≡ only x t
-  unfolding standing takenBack
-  new-stands x true = refl
-  new-stands x false = refl
-
   standing-signs : (x : Signing) → standing (step before (signs x)) ≡ held ++ only x (acceptable held x)
   unfolding takesBack newIn
   standing-signs x =
@@ -160,7 +162,7 @@ signings-step before e =
     ∙ ap (λ (l : List Signing). l ++ map signingOf (newIn (standing before) e)) (map-map signingOf (later e) before)
     ∙ ap (λ (l : List Signing). map signingOf before ++ l) (by e)
   where
-    first : (x : Signing) (t : Bool) → map signingOf (new before x t) ≡ cond t (x ∷ []) []
+    first : (x : Signing) (t : Bool) → map signingOf (new x t) ≡ cond t (x ∷ []) []
     first x true = refl
     first x false = refl
 
@@ -209,21 +211,21 @@ module _ (p : ℕ) where
 -- accepted
 module _ (grown : List Signature → List Signing)
     (grows : (before : List Signature) (x : Signing) →
-    grown (step before (signs x)) ≡ grown before ++ only before x (acceptable (standing before) x)) where
+    grown (step before (signs x)) ≡ grown before ++ only x (acceptable (standing before) x)) where
   signings-alone : (xs : List Signing) (before : List Signature) →
       grown (signaturesAfter before (map signs xs)) ≡ grown before ++ acceptedAfter (standing before) xs
   unfolding signaturesAfter acceptedAfter
   signings-alone [] before = sym (append-nil (grown before))
   signings-alone (x ∷ xs) before =
       let held : List Signing = standing before in
-      let one : List Signing = only before x (acceptable held x) in
+      let one : List Signing = only x (acceptable held x) in
       signings-alone xs (step before (signs x))
       ∙ ap (λ (l : List Signing). l ++ acceptedAfter (standing (step before (signs x))) xs) (grows before x)
       ∙ ap (λ (l : List Signing). (grown before ++ one) ++ acceptedAfter l xs) (standing-signs before x)
       ∙ by (acceptable held x)
     where
       by : (t : Bool) →
-          (grown before ++ only before x t) ++ acceptedAfter (standing before ++ only before x t) xs ≡
+          (grown before ++ only x t) ++ acceptedAfter (standing before ++ only x t) xs ≡
           grown before
           ++ cond t (x ∷ acceptedAfter (standing before ++ (x ∷ [])) xs) (acceptedAfter (standing before) xs)
       by true = append-snoc (grown before) x (acceptedAfter (standing before ++ (x ∷ [])) xs)

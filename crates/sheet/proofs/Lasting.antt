@@ -33,7 +33,7 @@ new-lasts : (before : List Signature) (e : Event) (es : List Event) →
     those (remains es) (standing (newIn (standing before) e)) ≡ lasting (standing before) e es
 unfolding newIn lasting those standing
 new-lasts before (signs x) es =
-    ap (those (remains es)) (new-stands before x (acceptable (standing before) x)) ∙ by (acceptable (standing before) x)
+    ap (those (remains es)) (new-stands x (acceptable (standing before) x)) ∙ by (acceptable (standing before) x)
   where
     by : (t : Bool) → those (remains es) (cond t (x ∷ []) []) ≡ cond (t && remains es x) (x ∷ []) []
     by true = refl

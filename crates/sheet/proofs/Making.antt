@@ -49,14 +49,15 @@ module _ (b : List ℕ) (p : ℕ) where
   unfolding openedFor
   opened-refused h = rw (ne-eqb (openRefusal b p) 0 h)
 
-  pub opened-new : opened b p .sheet ≡ sheetWith (openedFor b p) (standing [])
-  unfolding standing entriesOf holding
+  pub opened-new : opened b p .sheet ≡ sheetWith (openedFor b p) []
+  unfolding entriesOf holding
   opened-new = refl
 
   module _ (es : List Event) where
     -- over every list of signings and withdrawals on a new sheet, it holds each accepted signature not withdrawn since,
     -- in order of acceptance, and its unused bytes are 0
     pub sheet-held : afterAll (opened b p .sheet) es ≡ sheetWith (openedFor b p) (heldAfter es)
+    unfolding standing
     sheet-held = ap (λ (s : Sheet). afterAll s es) opened-new ∙ all-held (openedFor b p) es [] nothing-holdable
 
     pub entries-held : heldOn (afterAll (opened b p .sheet) es) ≡ entriesOf (heldAfter es)
@@ -64,6 +65,7 @@ module _ (b : List ℕ) (p : ℕ) where
 
     -- the signings to which the calls answer 0 are the accepted ones
     pub done-signatures : answeredDone (opened b p .sheet) es ≡ map signingOf (signatures es)
+    unfolding standing
     done-signatures = ap (λ (s : Sheet). answeredDone s es) opened-new ∙ all-done (openedFor b p) es [] nothing-holdable
 
     -- to the next event the call answers 0 exactly if a signing is accepted, or a withdrawal finds its user's signature

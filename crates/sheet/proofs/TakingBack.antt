@@ -14,8 +14,7 @@ use Rattle.reader.specs.Rules.{refusalOf}
 use Rattle.weights.specs.Acting.{mayAct}
 use Rattle.decision.specs.Groups.{entryCount}
 use Rattle.sheet.specs.declared.Sheet.{Sheet}
-use Rattle.sheet.specs.declared.Outcome.{Outcome}
-use Rattle.sheet.specs.Sheets.{heldOn, holding, standsIn, entriesWithout, signed, withdrawn}
+use Rattle.sheet.specs.Sheets.{heldOn, holding, standsIn, signed, withdrawn}
 use Rattle.sheet.specs.Signings.{Signing, signedBy, acceptable, entriesOf, sheetWith}
 use Rattle.sheet.specs.Events.{Made, heldAfter}
 use Rattle.sheet.proofs.Holding.{held-few, held-length}
@@ -23,8 +22,8 @@ use Rattle.sheet.proofs.Passing.{sign-passes, passes-sign}
 use Rattle.sheet.proofs.Standing.{entries-length, entries-count, stands-signed, held-with}
 use Rattle.sheet.proofs.Accepting.{done-acceptable, signed-accepted, few-more, new-user}
 use Rattle.sheet.proofs.Choosing.{those, another, those-append, those-few, others-all, others-unsigned}
-use Rattle.sheet.proofs.Choosing.{others-fewer, others-signed, entries-staying}
-use Rattle.sheet.proofs.Withdrawing.{withdrawn-refused, withdrawn-done, stands-with, left-with}
+use Rattle.sheet.proofs.Choosing.{others-fewer, others-signed}
+use Rattle.sheet.proofs.Withdrawing.{withdrawn-done, answer-23, sheet-kept, sheet-left, left-is, stands-with}
 use Rattle.sheet.proofs.Making.{made-is, held-holdable}
 
 -- a signing on a sheet that holds the signings xs, and the withdrawal of its user
@@ -44,12 +43,13 @@ module _ (xs : List Signing) (x : Signing) (new : signedBy xs (x .user) ≡ fals
 back-with : (p : ℕ) (xs : List Signing) (x : Signing) → length xs ≤ 6 → acceptable xs x ≡ true →
     withdrawn (signed (x .base) (sheetWith p xs) (x .user) (x .role) .sheet) (x .user) ≡
     record { refusal = 0; sheet = sheetWith p xs }
+unfolding holding
 back-with p xs x few done =
     let u = x .user in
     let more : List Signing = xs ++ (x ∷ []) in
     let six = few-more xs x done in
     let stands = stands-with p more u six ∙ signed-last xs x in
-    let left = left-with p more u six ∙ ap (sheetWith p) (without-last xs x (new-user xs x done)) in
+    let left = left-is p u more (held-with p more six) ∙ ap (sheetWith p) (without-last xs x (new-user xs x done)) in
     ap (λ (s : Sheet). withdrawn s u) (signed-accepted p xs x few done)
     ∙ sym (withdrawn-done (sheetWith p more) u stands (sym left))
 
@@ -64,6 +64,31 @@ back-at-once s m b u r done =
     let ok = sym (done-acceptable _ (heldAfter (m .events)) x few) ∙ eq-eqb _ _ answer in
     ap (λ (t : Sheet). withdrawn (signed b t u r .sheet) u) is ∙ back-with _ (heldAfter (m .events)) x few ok
     ∙ ap (λ (t : Sheet). record { refusal = 0; sheet = t }) (sym is)
+
+-- whatever signings the entries held are those of: after a withdrawal that is done the sheet is for the same
+-- permission and holds the entries of those by all others, in their order
+module _ (s : Sheet) (u : ℕ) (size : length (s .entries) ≡ 12)
+    (xs : List Signing) (held-is : heldOn s ≡ entriesOf xs) where
+  few-held : length xs ≤ 6
+  few-held =
+      let long = sym (entries-length xs) ∙ ap (λ (l : List ℕ). length l) (sym held-is) in
+      omega (arith, long, held-length (s .count) (s .entries) size, held-few (s .count))
+
+  others-few : length (those (another u) xs) ≤ 6
+  others-few = le-trans (those-few (another u) xs) few-held
+
+  withdrawn-is : standsIn (heldOn s) u ≡ true → withdrawn s u .sheet ≡ sheetWith (s .permission) (those (another u) xs)
+  withdrawn-is h = sheet-left s u h ∙ left-is (s .permission) u xs held-is
+
+  pub entries-left : standsIn (heldOn s) u ≡ true →
+      (heldOn (withdrawn s u .sheet) ≡ entriesOf (those (another u) xs)) ×
+      (withdrawn s u .sheet .permission ≡ s .permission)
+  unfolding holding
+  entries-left h =
+      let is = withdrawn-is h in (
+        ap heldOn is ∙ held-with (s .permission) (those (another u) xs) others-few,
+        ap (λ (t : Sheet). t .permission) is,
+      )
 
 -- any entries as signings, against no base
 unfoldable signingsIn : List ℕ → List Signing
@@ -84,51 +109,37 @@ module _ (s : Sheet) (u : ℕ) (size : length (s .entries) ≡ 12) where
   abbrev others : List Signing
   others = those (another u) xs
 
-  held-is : heldOn s ≡ entriesOf xs
-  held-is = entries-in (heldOn s) _ (held-length (s .count) (s .entries) size)
+  held-in : heldOn s ≡ entriesOf xs
+  held-in = entries-in (heldOn s) _ (held-length (s .count) (s .entries) size)
 
-  few : length xs ≤ 6
-  few =
-      let long = sym (entries-length xs) ∙ ap (λ (l : List ℕ). length l) (sym held-is) in
-      omega (arith, long, held-length (s .count) (s .entries) size, held-few (s .count))
+  few : length others ≤ 6
+  few = others-few s u size xs held-in
 
-  others-few : length others ≤ 6
-  others-few = le-trans (those-few (another u) xs) few
-
-  -- after a withdrawal that is done the sheet holds the entries of all others
-  withdrawn-is : standsIn (heldOn s) u ≡ true → withdrawn s u .sheet ≡ sheetWith (s .permission) others
-  withdrawn-is h =
-      let p = s .permission in
-      sym (ap (λ (o : Outcome). o .sheet) (withdrawn-done s u h refl))
-      ∙ ap (λ (g : List ℕ). holding p (entriesWithout u g)) held-is
-      ∙ ap (holding p) (entries-staying _ xs)
+  left-in : standsIn (heldOn s) u ≡ true → withdrawn s u .sheet ≡ sheetWith (s .permission) others
+  left-in = withdrawn-is s u size xs held-in
 
   others-stand : standsIn (heldOn (sheetWith (s .permission) others)) u ≡ false
-  others-stand = stands-with (s .permission) others u others-few ∙ others-unsigned u xs
+  others-stand = stands-with (s .permission) others u few ∙ others-unsigned u xs
 
   -- so the next withdrawal of that user is 23
   pub then-23 : withdrawn (withdrawn s u .sheet) u .refusal ≡ 23
   then-23 =
-      let refused : (t : Sheet) → standsIn (heldOn t) u ≡ false → withdrawn t u .refusal ≡ 23 =
-      λ t h. sym (ap (λ (o : Outcome). o .refusal) (withdrawn-refused t u h)) in
       ⊎-elim
-      (λ h. ap (λ (t : Sheet). withdrawn t u .refusal) (withdrawn-is h) ∙ refused _ others-stand)
-      (λ h.
-      ap (λ (t : Sheet). withdrawn t u .refusal) (sym (ap (λ (o : Outcome). o .sheet) (withdrawn-refused s u h)))
-      ∙ refused s h)
+      (λ h. ap (λ (t : Sheet). withdrawn t u .refusal) (left-in h) ∙ answer-23 _ u others-stand)
+      (λ h. ap (λ (t : Sheet). withdrawn t u .refusal) (sheet-kept s u h) ∙ answer-23 s u h)
       (met-or-not (standsIn (heldOn s) u))
 
   stood : withdrawn s u .refusal ≡ 0 → standsIn (heldOn s) u ≡ true
   stood done =
       ⊎-elim (λ h. h)
-      (λ h. absurd (suc-ne-zero 22 (ap (λ (o : Outcome). o .refusal) (withdrawn-refused s u h) ∙ done)))
+      (λ h. absurd (suc-ne-zero 22 (sym (answer-23 s u h) ∙ done)))
       (met-or-not (standsIn (heldOn s) u))
 
   room-again : standsIn (heldOn s) u ≡ true → entryCount (heldOn (withdrawn s u .sheet)) < 6
   room-again h =
-      let count = ap entryCount (ap heldOn (withdrawn-is h) ∙ held-with (s .permission) others others-few) in
-      let signer = sym (stands-signed xs u) ∙ ap (λ (g : List ℕ). standsIn g u) (sym held-is) ∙ h in
-      omega (arith, count, entries-count others, others-fewer u xs signer, few)
+      let count = ap entryCount (ap heldOn (left-in h) ∙ held-with (s .permission) others few) in
+      let signer = sym (stands-signed xs u) ∙ ap (λ (g : List ℕ). standsIn g u) (sym held-in) ∙ h in
+      omega (arith, count, entries-count others, others-fewer u xs signer, few-held s u size xs held-in)
 
   -- and the user may sign again: neither 14 nor 20 applies
   pub sign-again : withdrawn s u .refusal ≡ 0 → (b : List ℕ) (r : ℕ) →
@@ -138,7 +149,7 @@ module _ (s : Sheet) (u : ℕ) (size : length (s .entries) ≡ 12) where
   sign-again done b r =
       let h = stood done in
       let held : List ℕ = heldOn (withdrawn s u .sheet) in
-      let new = ap (λ (t : Sheet). standsIn (heldOn t) u) (withdrawn-is h) ∙ others-stand in (
+      let new = ap (λ (t : Sheet). standsIn (heldOn t) u) (left-in h) ∙ others-stand in (
         λ e. let p = sign-passes b held u r e in (p .ok, p .user, p .role, p .acting),
         λ w.
             passes-sign b held u r
@@ -150,9 +161,9 @@ module _ (s : Sheet) (u : ℕ) (size : length (s .entries) ≡ 12) where
   others-stay v ne =
       ⊎-elim
       (λ h.
-      ap (λ (t : Sheet). standsIn (heldOn t) v) (withdrawn-is h)
-      ∙ stands-with (s .permission) others v others-few
+      ap (λ (t : Sheet). standsIn (heldOn t) v) (left-in h)
+      ∙ stands-with (s .permission) others v few
       ∙ others-signed u v ne xs
-      ∙ sym (ap (λ (g : List ℕ). standsIn g v) held-is ∙ stands-signed xs v))
-      (λ h. ap (λ (o : Outcome). standsIn (heldOn (o .sheet)) v) (sym (withdrawn-refused s u h)))
+      ∙ sym (ap (λ (g : List ℕ). standsIn g v) held-in ∙ stands-signed xs v))
+      (λ h. ap (λ (t : Sheet). standsIn (heldOn t) v) (sheet-kept s u h))
       (met-or-not (standsIn (heldOn s) u))

@@ -89,9 +89,13 @@ staying stays held =
     let role = entryRole held i in
     cond (stays user role) (user ∷ role ∷ []) [])
 
+-- another user than u, in whatever role
+abbrev pub isAnother : ℕ → ℕ → ℕ → Bool
+isAnother u user role = not (eqb user u)
+
 -- the entries of all users but u, in their order
 abbrev pub entriesWithout : ℕ → List ℕ → List ℕ
-entriesWithout u held = staying (λ user role. not (eqb user u)) held
+entriesWithout u held = staying (isAnother u) held
 
 -- refusal 23 of a withdrawal of user u, or 0: the user has no entry on the sheet
 unfoldable pub withdrawRefusal : List ℕ → ℕ → ℕ

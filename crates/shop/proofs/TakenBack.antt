@@ -26,7 +26,10 @@ unfolding shop morning standAfter
     openRefusal openedFor signRefusal signed standsIn holding staying withdrawRefusal withdrawn
     signedBy acceptable entriesOf takesBack takenBack standing newIn signaturesAfter called bytesAfterAll
 taken-back = record {
+  one-signed = refl;
+  two-signed = refl;
   three-signed = refl;
+  refused = refl;
   clerk-withdrawn = refl;
   in-vain = refl;
   signed-again = refl;
@@ -35,6 +38,6 @@ taken-back = record {
   over-six = refl;
   twice = refl;
   behind = refl;
-  role-alone = refl;
   not-cut = refl;
+  role-alone = refl;
 }

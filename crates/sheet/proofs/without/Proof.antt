@@ -1,27 +1,22 @@
 -- `without` meets its contract: it keeps the entries of all others, one behind the other.
 use Prim.Native.Nat.{ℕ, _+_, _*_, _-_, _<_, _≤_}
-use mathlib.Core.Bool.{Bool, not}
 use mathlib.Core.Path.{_≡_, ap, _∙_}
 use mathlib.Core.Logic.{inl, inr}
 use mathlib.Core.List.{List}
 use native.Mathlib.Omega.{arith}
 use lib.ListN.{length}
-use lib.Dec.{eqb}
 use borrow.Author.Tests.{eq-eqb, ne-eqb}
 use borrow.Author.Needs.{needs}
 use Rattle.decision.specs.Groups.{entryCount, entryUser, entryRole}
 use Rattle.sheet.specs.declared.Sheet.{Sheet}
-use Rattle.sheet.specs.Sheets.{heldOn, holding, entriesWithout, withEntry}
+use Rattle.sheet.specs.Sheets.{heldOn, holding, isAnother, entriesWithout, withEntry}
 use Rattle.sheet.proofs.Holding.{held-few, held-entries}
 use Rattle.sheet.proofs.Staying.{StayedYet, none-stayed, room-left, one-stays, one-goes, all-stayed}
 use Rattle.sheet.proofs.without.Statement.{statement}
 use Rattle.sheet.proofs.without.Tie as tie
 
-abbrev another : ℕ → ℕ → ℕ → Bool
-another user v role = not (eqb v user)
-
 abbrev Inv-loop : tie.InvT-loop
-Inv-loop user left₀ held i₀ i-end left i = StayedYet (another user) held (left₀ .permission) left i
+Inv-loop user left₀ held i₀ i-end left i = StayedYet (isAnother user) held (left₀ .permission) left i
 
 abbrev μ-loop : tie.MeasureT-loop
 μ-loop user left₀ held i₀ i-end left i = i-end - i
@@ -36,14 +31,14 @@ of-held : (s : Sheet) (user : ℕ) {left : Sheet} {held : List ℕ} → held ≡
 of-held s user e h = h ∙ ap (λ (g : List ℕ). holding (s .permission) (entriesWithout user g)) e
 
 -- one turn: the entry is another user's, or the user's own
-module _ {user : ℕ} {held : List ℕ} {p : ℕ} {left : Sheet} {i : ℕ} (yet : StayedYet (another user) held p left i)
+module _ {user : ℕ} {held : List ℕ} {p : ℕ} {left : Sheet} {i : ℕ} (yet : StayedYet (isAnother user) held p left i)
     (there : i < entryCount held) where
   stays : {with next : Sheet} → (entryUser held i ≡ user → ⊥) →
       with ≡ withEntry left (entryUser held i) (entryRole held i) → next ≡ with →
-      StayedYet (another user) held p next (i + 1)
+      StayedYet (isAnother user) held p next (i + 1)
   stays h e n = rw (n, e) (one-stays _ _ p yet there (rw (ne-eqb _ _ h)))
 
-  goes : {next : Sheet} → entryUser held i ≡ user → next ≡ left → StayedYet (another user) held p next (i + 1)
+  goes : {next : Sheet} → entryUser held i ≡ user → next ≡ left → StayedYet (isAnother user) held p next (i + 1)
   goes h n = rw n (one-goes _ _ p yet there (rw (eq-eqb _ _ h)))
 
 -- the entry
