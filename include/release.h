@@ -10,7 +10,9 @@
  * or done), or the number of the first refusal that applies, in the order of
  * enum release_refusal but for 22, which comes after 9. A refused call writes
  * nothing, with one exception: a refused opening gives the unsigned sheet for
- * permission 255 in its 14 bytes. An answer depends on the arguments alone.
+ * permission 255 in its 14 bytes. Some answers carry a number beside the refusal;
+ * it is 0 of every refusal but 18 of release_conflicts and 5 of
+ * release_parameter. An answer depends on the arguments alone.
  *
  * Pointers. A slice passes as a pointer and its length in bytes.
  * - The pointer is valid for that length: base, list and group to read, out to
@@ -255,6 +257,25 @@ uint64_t release_bound(const uint8_t *base, size_t base_len,
                        const uint8_t *group, size_t group_len);
 
 /*
+ * The check of one user's parameter where there are so many roles: refusal +
+ * 256 * tried. The refusal is 0, or 5 if the parameter is no product of different
+ * codes of roles below that number; 1 is no role and passes. The call takes no
+ * base, and no byte is read or written.
+ *
+ * The codes of roles 0 to 7 are 3, 5, 7, 11, 13, 17, 19 and 23. The check tries
+ * them in role order and ends as soon as the rest is 1. The number tried is 0 for
+ * parameter 1; for any other that passes, the highest role's number plus one; and
+ * for one that is refused, the number of roles. So 5 carries a number here, as no
+ * refusal but 18 does elsewhere.
+ *
+ * More than 8 roles are read as 8. Numbers aren't cut: 256 and 257 roles are read
+ * as 8, and parameter 259 isn't 3. With 0 roles parameter 1 passes, every other
+ * gets 5, and none is tried. A base has 1 to 8 roles; release_check gives 5, after
+ * 1 to 4, where this call gives it for the parameter of one of the users.
+ */
+uint64_t release_parameter(uint32_t parameter, uint32_t roles);
+
+/*
  * Opens a sheet, which collects signatures for a permission: 0, or the first of
  * refusals 1 to 10 that applies. The number isn't cut: permission 256 is
  * refused by 10.
@@ -308,13 +329,14 @@ uint32_t release_sheet_ask(const uint8_t *base, size_t base_len,
                            const uint8_t *sheet);
 
 /* The refusal in an answer of release_report, release_report_by,
-   release_conflicts or release_bound. */
+   release_conflicts, release_bound or release_parameter. */
 static inline uint32_t release_answer_refusal(uint64_t answer) {
     return (uint32_t)(answer % 256);
 }
 
 /* The count in an answer of release_report, release_report_by or
-   release_conflicts, or the bound in one of release_bound. */
+   release_conflicts, the bound in one of release_bound, or the number tried in
+   one of release_parameter. */
 static inline uint32_t release_answer_count(uint64_t answer) {
     return (uint32_t)(answer / 256);
 }

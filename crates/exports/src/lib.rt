@@ -4,6 +4,7 @@ use weights::Context;
 ghost use mathlib.Core.Path.{_≡_};
 ghost use lib.ListN.{length};
 ghost use Rattle.reader.specs.Rules.{refusalOf};
+ghost use Rattle.reader.specs.Codes.{parameterAnswer};
 ghost use Rattle.report.specs.Report.{answerOf, answerLent, ReportedOf, ReportedLent};
 ghost use Rattle.report.specs.Demand.{Demanded, DemandedLent};
 ghost use Rattle.conflicts.specs.Conflicts.{conflictAnswer, conflictBytes};
@@ -197,6 +198,15 @@ pub extern "C" fn release_bound(base: &[u8], policy: u32, weight: u32, group: &[
     ensures { λ r. ⌜ r ≡ packed (boundAnswer (now (base .entry)) policy weight (now (group .entry))) ⌝ }
 {
     pack(shift::bound(base, policy, weight, group))
+}
+
+// The check of one parameter with so many roles: 0, or 5; plus 256 times the number of codes tried, which 5 carries
+// too. Roles above 8 are read as 8.
+#[no_mangle]
+pub extern "C" fn release_parameter(parameter: u32, roles: u32) -> u64
+    ensures { λ r. ⌜ r ≡ packed (parameterAnswer roles parameter) ⌝ }
+{
+    pack(reader::codes::check_parameter(parameter, roles))
 }
 
 // An answer as one number.

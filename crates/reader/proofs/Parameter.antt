@@ -40,7 +40,7 @@ unfolding restOf
 rest-left r x h = rw (add-one, h)
 
 -- no code is 0 or 1
-code-big : (r : ℕ) → r < 8 → 1 < codeOf r
+pub code-big : (r : ℕ) → r < 8 → 1 < codeOf r
 unfolding allBelow
 code-big r h = ltb-true _ _ (all-at (λ k. ltb 1 (codeOf k)) 8 refl r h)
 
@@ -75,7 +75,7 @@ divides-true : (r x : ℕ) → codeOf r ∣ x → codeDivides r x ≡ true
 divides-true r x d = eq-eqb _ _ (mod-eq-zero-of-dvd (codeOf r) d)
 
 -- and by nothing else
-true-divides : (r x : ℕ) → codeDivides r x ≡ true → codeOf r ∣ x
+pub true-divides : (r x : ℕ) → codeDivides r x ≡ true → codeOf r ∣ x
 true-divides r x h = dvd-of-mod-eq-zero (codeOf r) (eqb-true _ _ h)
 
 -- the code of another role as a factor makes no difference to role r
@@ -155,6 +155,11 @@ moved r y p = by (codeDivides r y) refl
     by true e = rw (mul-left-comm, div-mul-cancel (codeOf r) (true-divides r y e)) (mul-comm y p)
     by false e = rw (mul-one p)
 
+-- of y times codes of roles below n, role n's code is a divisor exactly where it is one of y
+same-divisor : (t : ℕ → Bool) (n x y : ℕ) → n < 8 → x ≡ y * productBelow n (factor t) →
+    codeDivides n x ≡ codeDivides n y
+same-divisor t n x y h e = ap (codeDivides n) e ∙ others t n y n h (omega arith)
+
 -- a number is what is left of it times the codes that divide it
 rest-times : (n x : ℕ) → n ≤ 8 → x ≡ restOf n x * productBelow n (factor (λ k. codeDivides k x))
 unfolding restOf productBelow
@@ -162,9 +167,12 @@ rest-times zero x h = sym (mul-one x)
 rest-times (suc n) x h =
     let t : ℕ → Bool = λ k. codeDivides k x in
     let e : x ≡ restOf n x * productBelow n (factor t) = rest-times n x (omega arith) in
-    let other = others t n (restOf n x) n h (omega arith) in
-    let same : codeDivides n x ≡ codeDivides n (restOf n x) = ap (codeDivides n) e ∙ other in
+    let same : codeDivides n x ≡ codeDivides n (restOf n x) = same-divisor t n x (restOf n x) h e in
     rw same (e ∙ moved n (restOf n x) (productBelow n (factor t)))
+
+-- the code of role n divides a number exactly where it divides what is left once those before it were divided out
+pub rest-divides : (n x : ℕ) → n < 8 → codeDivides n x ≡ codeDivides n (restOf n x)
+rest-divides n x h = same-divisor (λ k. codeDivides k x) n x (restOf n x) h (rest-times n x (omega arith))
 
 -- the same with the set of the roles whose codes divide it
 rest-set : (R x s : ℕ) → R ≤ 8 → ((r : ℕ) → r < R → codeDivides r x ≡ inSet s r) → x ≡ restOf R x * codeProduct R s

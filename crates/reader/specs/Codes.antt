@@ -1,14 +1,15 @@
 -- Membership: each role has a prime as its identity code; a user's parameter is the product of the codes of that
 -- user's roles, each once (004, definitions 18 and 19).
-use Prim.Native.Nat.{ℕ, _%_, _^_}
-use mathlib.Core.Bool.{Bool, _&&_, cond}
+use Prim.Native.Nat.{ℕ, zero, suc, _+_, _%_, _^_}
+use mathlib.Core.Bool.{Bool, _&&_, not, cond}
 use mathlib.Core.List.{List, [], _∷_}
 use lib.ListN.{getD}
 use lib.Dec.{ltb, eqb}
-use Rattle.folds.specs.Below.{anyBelow, productBelow}
+use Rattle.folds.specs.Below.{anyBelow, firstBelow, productBelow}
 use Rattle.folds.specs.Sets.{inSet}
 use Rattle.reader.specs.Tables.{users, roleCount, tableOf, recordCount}
 use Rattle.reader.specs.Fields.{parameter}
+use Rattle.reader.specs.declared.Answer.{Answer}
 
 -- the identity codes of roles 0 to 7
 abbrev pub codes : List ℕ
@@ -38,3 +39,30 @@ heldBy R us u r = ltb u (recordCount users us) && (ltb r R && codeDivides r (par
 -- membership: user u of the base holds role r
 abbrev pub holds : List ℕ → ℕ → ℕ → Bool
 holds b u r = heldBy (roleCount b) (tableOf b users) u r
+
+-- the set of roles below R whose product x is; 2 ^ R, which is no such set, where x is no product
+unfoldable pub productSet : ℕ → ℕ → ℕ
+unfolding firstBelow
+productSet R x = firstBelow (2 ^ R) (λ s. eqb x (codeProduct R s))
+
+-- the highest of the roles below n that are in the set s; 0 where there is none
+unfoldable pub highestBelow : ℕ → ℕ → ℕ
+highestBelow zero s = 0
+highestBelow (suc n) s = cond (inSet s n) n (highestBelow n s)
+
+-- how many codes the check of the parameter x tries with R roles (02, Six): none for 1, R for a parameter that gets 5,
+-- else the highest role's number plus one
+unfoldable pub codesTried : ℕ → ℕ → ℕ
+codesTried R x =
+    cond (eqb x 1) 0
+    (cond (not (parameterOk R x)) R
+    (highestBelow R (productSet R x) + 1))
+
+-- roles above 8 are read as 8
+abbrev pub rolesRead : ℕ → ℕ
+rolesRead n = cond (ltb 8 n) 8 n
+
+-- the answer to the check of the parameter x with n roles: 0 or 5, and how many codes were tried, of 5 too
+unfoldable pub parameterAnswer : ℕ → ℕ → Answer
+parameterAnswer n x =
+    record { refusal = cond (parameterOk (rolesRead n) x) 0 5; count = codesTried (rolesRead n) x }

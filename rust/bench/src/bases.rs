@@ -2,6 +2,7 @@
 //! reports cost most.
 
 use compare::builder::*;
+use compare::products::product;
 use twin::worst::LAST_FAILS;
 
 /// A shop of a usual size: a manager, buyers, deputies, clerks and trainees
@@ -133,6 +134,26 @@ pub fn overrides() -> BaseBuilder {
     base
 }
 
+/// Users by the sets of their roles of eight, and nothing else.
+pub fn users_alone(sets: [u8; 24]) -> BaseBuilder {
+    BaseBuilder {
+        users: users(&sets),
+        ..BaseBuilder::new(8)
+    }
+}
+
+/// Each user holds one or two of roles 0 to 2.
+pub fn low_roles() -> [u8; 24] {
+    let sets = [0b001, 0b010, 0b011, 0b100, 0b101, 0b110];
+    std::array::from_fn(|user| sets[user % sets.len()])
+}
+
+/// The same with a user whose parameter is 0, which every code divides.
+pub fn refused(mut base: BaseBuilder, user: usize) -> BaseBuilder {
+    base.users[user].parameter = 0;
+    base
+}
+
 /// As many conflicts as a base can have, 2,688. Half the policies are for each
 /// of two permissions that exclude each other, all for one role and with as
 /// different weights and types as there are; the other exclusions are ones of
@@ -174,10 +195,6 @@ fn edges(pairs: &[(u8, u8)]) -> Vec<Edge> {
 
 /// Users by the sets of their roles.
 pub fn users(sets: &[u8]) -> Vec<User> {
-    let product = |set: u8| {
-        let codes = (0..8).zip(CODES).filter(|(role, _)| set >> role & 1 == 1);
-        codes.map(|(_, code)| code).product()
-    };
     let parameters = sets.iter().map(|&set| product(set));
     parameters.map(|parameter| User { parameter }).collect()
 }
@@ -204,6 +221,7 @@ mod tests {
             assert_eq!(agreed_check(&base.bytes()), 0);
         }
         assert_eq!(agreed_check(&typical_shop().bytes()), 0);
+        assert_eq!(agreed_check(&users_alone(low_roles()).bytes()), 0);
     }
 
     #[test]

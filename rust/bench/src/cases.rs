@@ -24,6 +24,8 @@ pub enum Call {
     /// By [`LIST`].
     DecideBy,
     ReportBy,
+    /// Of a parameter, with so many roles.
+    Parameter(u32, u32),
 }
 
 /// The resolution list of decisions and reports by one: all rules.
@@ -113,6 +115,9 @@ impl Case {
                 release::answers::decide_by(&self.base, 0, at, &LIST, &self.group).into()
             }
             Call::ReportBy => number(release::answers::report_by(&self.base, at, &LIST, out)),
+            Call::Parameter(parameter, roles) => {
+                number(release::answers::parameter(parameter, roles))
+            }
         }
     }
 
@@ -133,6 +138,7 @@ impl Case {
             }
             Call::DecideBy => twin::decide_by(&self.base, 0, self.at, &LIST, &self.group).into(),
             Call::ReportBy => number(twin::report_by(&self.base, self.at, &LIST, out)),
+            Call::Parameter(parameter, roles) => number(twin::parameter(parameter, roles)),
         }
     }
 
@@ -153,6 +159,7 @@ impl Case {
             }
             Call::DecideBy => model::decide_by(&self.base, 0, self.at, &LIST, &self.group).into(),
             Call::ReportBy => number(model::report_by(&self.base, self.at, &LIST, out)),
+            Call::Parameter(parameter, roles) => number(model::parameter(parameter, roles)),
         }
     }
 }
@@ -172,6 +179,7 @@ pub fn cases() -> Vec<Case> {
         case("check small shop", Call::Check, &small, &[]),
         case("check typical shop", Call::Check, &typical, &[]),
         case("check longest base", Call::Check, &full, &[]),
+        case("check from above", Call::Check, &above, &[]),
         case("decide small shop", Call::Decide, &small, &[0, 0, 2, 2]),
         case("decide typical shop", Call::Decide, &typical, &[0, 0, 6, 3]),
         case("decide full base", Call::Decide, &full, &six),
@@ -206,6 +214,7 @@ pub fn cases() -> Vec<Case> {
         report("report full base", &full),
         report("report from above", &above),
     ];
+    cases.extend(of_users());
     cases.extend(by_list());
     let plans = twin::worst::all().map(|(name, plan)| (name, plan.bytes()));
     let made = worst::all().map(|(name, base)| (name, base.bytes()));
@@ -222,6 +231,28 @@ pub fn cases() -> Vec<Case> {
         case(&name, Call::Conflicts, &base, &[])
     }));
     cases
+}
+
+/// Checks of bases that have users alone, and of single parameters.
+fn of_users() -> Vec<Case> {
+    let checks = [
+        ("no role", users_alone([0; 24])),
+        ("low roles", users_alone(low_roles())),
+        ("last role", users_alone([1 << 7; 24])),
+        ("all roles", users_alone([255; 24])),
+        ("refused first", refused(users_alone(low_roles()), 0)),
+        ("refused last", refused(users_alone(low_roles()), 23)),
+        ("refused behind all", refused(users_alone([255; 24]), 23)),
+    ];
+    let checks = checks
+        .iter()
+        .map(|(name, base)| case(&format!("check {name}"), Call::Check, &base.bytes(), &[]));
+    let parameters = [("1", 1), ("3", 3), ("of all roles", 111_546_435), ("0", 0)];
+    let parameters = parameters.iter().map(|(name, parameter)| {
+        let call = Call::Parameter(*parameter, 8);
+        case(&format!("parameter {name}"), call, &[], &[])
+    });
+    checks.chain(parameters).collect()
 }
 
 /// Decisions and reports by a list, on the bases of those without one, on bases
@@ -285,6 +316,8 @@ mod tests {
         match case.call {
             Call::Decide | Call::DecideBy | Call::Ask if !shop => 17,
             Call::Withdraw(6) => 23,
+            Call::Parameter(0, _) => 5,
+            Call::Check if case.name.contains("refused") => 5,
             _ => 0,
         }
     }

@@ -14,6 +14,8 @@ pub mod lent;
 pub mod lists;
 pub mod lively;
 pub mod mornings;
+pub mod parameters;
+pub mod products;
 pub mod questions;
 pub mod random;
 mod reports;

@@ -11,6 +11,7 @@ use compare::lent::Lent;
 use compare::lists::{any_list, List};
 use compare::lively::{full_base, heavy_base, lively_base};
 use compare::mornings::{loose_sheets, morning, Morning};
+use compare::products::random_parameters;
 use compare::questions::{any_context, any_permission, random_question, Asked};
 use compare::random::Random;
 use compare::rivals::rival_base;
@@ -188,5 +189,12 @@ fn sheets_of_any_bytes() {
         let mut lent = Lent::noisy(random, SHEET);
         *lent.sheet() = sheet;
         compare_sheets(base, call, &mut lent);
+    });
+}
+
+#[test]
+fn parameters() {
+    random_parameters(86, 100_000, |checked| {
+        assert_eq!(checked.by_twin(), checked.by_library(), "{checked:?}");
     });
 }

@@ -4,12 +4,14 @@ use compare::builder::{BaseBuilder, User};
 use compare::cases::*;
 use compare::clashing::clashing_base;
 use compare::lists::{ILLEGAL, LEGAL};
+use compare::parameters::Checked;
+use compare::products::random_parameters;
 use compare::questions::{at_minute, random_question, Asked};
 use compare::random::Random;
 use compare::rivals::rival_base;
 use compare::shop::small_shop;
 use compare::{library_context, permission_count};
-use model::Base;
+use model::{Base, Reading};
 use release::answers::{self, Answer};
 use release::example::SMALL_SHOP;
 use release::{Context, Entry, Permission, Refusal, Report, Resolution, Sheet, SHEET_BYTES};
@@ -151,6 +153,17 @@ fn expect_bounds(base: &[u8], policy: u32, group: &[u8]) {
             assert_eq!(release::bound(base, policy, weight, &entries), bound);
         }
     }
+}
+
+/// The check of one parameter: the library's own answer, and the model's.
+fn expect_parameter(checked: Checked) {
+    let Checked { parameter, roles } = checked;
+    let expected = answers::parameter(parameter, roles);
+    let by_model = checked.by_model(Reading::Paper);
+    assert_eq!((expected.refusal, expected.count), by_model);
+    let tried = release::check_parameter(parameter, roles);
+    assert_eq!(number(&tried.result), expected.refusal);
+    assert_eq!(tried.tried, expected.count);
 }
 
 /// A sheet in the wrapper's hands, and the bytes that the library's own calls
@@ -304,6 +317,16 @@ fn by_lists() {
         let base = Base::read(&records.bytes()).expect("the base passes");
         let asked = random_question(&mut random, &records, &base);
         expect_by_lists(&records.bytes(), &asked);
+    }
+}
+
+#[test]
+fn parameters() {
+    random_parameters(92, 10_000, expect_parameter);
+    for roles in 0..=9 {
+        for parameter in 0..1_000 {
+            expect_parameter(Checked { parameter, roles });
+        }
     }
 }
 

@@ -18,6 +18,7 @@ mod group;
 mod layout;
 mod membership;
 mod operator;
+mod parameter;
 mod reading;
 mod records;
 mod refusal;
@@ -45,6 +46,7 @@ pub use context::Context;
 pub use decision::{decide, decide_as, decide_by, Question};
 pub use group::{Attributes, Entry};
 pub use operator::Comparison;
+pub use parameter::{parameter, parameter_as};
 pub use reading::Reading;
 pub use records::{
     ContextClause, ContextCondition, Edge, Exclusion, GroupClause, GroupCondition, Measure,

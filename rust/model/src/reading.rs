@@ -2,9 +2,9 @@
 
 /// The paper's reading with the requests', or a wrong one: those that the paper
 /// warns of, and some of the conflict list, of sheets, of who may act as what,
-/// of what a changed weight can shift, of which policy goes before and of what
-/// a withdrawal leaves. A test can take a wrong one to show that the comparison
-/// notices it.
+/// of what a changed weight can shift, of which policy goes before, of what a
+/// withdrawal leaves and of how many codes are tried. A test can take a wrong
+/// one to show that the comparison notices it.
 #[derive(Clone, Copy, Debug, Default, PartialEq, Eq)]
 pub enum Reading {
     #[default]
@@ -113,6 +113,14 @@ pub enum Reading {
     FirstEntryAlone,
     /// The bytes behind the entries that stay aren't cleared.
     BehindUncleared,
+    /// One code is tried for parameter 1.
+    TryForNone,
+    /// As many codes are tried as roles are held.
+    RolesCounted,
+    /// The number tried is the highest role's, without the plus one.
+    HighestItself,
+    /// For a parameter that gets 5 the end of the codes counts as tried too.
+    EndCounted,
 }
 
 impl Reading {
@@ -190,6 +198,14 @@ impl Reading {
         Reading::RoleWithdrawn,
         Reading::FirstEntryAlone,
         Reading::BehindUncleared,
+    ];
+
+    /// Wrong readings that only the check of one parameter shows.
+    pub const WRONG_OF_PARAMETERS: [Reading; 4] = [
+        Reading::TryForNone,
+        Reading::RolesCounted,
+        Reading::HighestItself,
+        Reading::EndCounted,
     ];
 }
 

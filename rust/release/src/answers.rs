@@ -164,6 +164,25 @@ pub fn bound(base: &[u8], policy: u32, weight: u32, group: &[u8]) -> Answer {
     Answer::from_number(library::bound(base, policy, weight, group))
 }
 
+/// The check of one user's parameter where there are so many roles: 0, or 5 if it
+/// is no product of different codes of roles below that number. Both carry how
+/// many codes were tried: 0 for parameter 1, the number of roles of a parameter
+/// that gets 5, else the highest role's number plus one. More than 8 roles are
+/// read as 8. No base is consulted.
+///
+/// ```
+/// use release::answers::{self, Answer};
+///
+/// let passed = Answer { refusal: 0, count: 2 };
+/// assert_eq!(answers::parameter(15, 3), passed);
+///
+/// let refused = Answer { refusal: 5, count: 3 };
+/// assert_eq!(answers::parameter(11, 3), refused);
+/// ```
+pub fn parameter(parameter: u32, roles: u32) -> Answer {
+    Answer::from_number(library::parameter(parameter, roles))
+}
+
 /// Opens a sheet for a permission: 0, or the first of refusals 1 to 10 that
 /// applies. All its bytes are written, whatever they held: the unsigned sheet
 /// for the permission or, if refused, for permission 255. No other refused call

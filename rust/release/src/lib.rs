@@ -5,7 +5,7 @@
 //! each role weighs for a permission, and which groups may release it. A user
 //! may act in a role that the user holds, or that is junior to one that the user
 //! holds. The library answers these questions about a base, for any bytes
-//! whatever:
+//! whatever, and one about a parameter alone:
 //!
 //! | function | question |
 //! |---|---|
@@ -15,6 +15,7 @@
 //! | [`decide_by`], [`decide_by_bytes`], [`report_by`], [`report_by_into`] | the same where a [`Resolution`] says which of several policies counts |
 //! | [`conflicts`], [`conflicts_into`], [`conflict_count`] | which records of the base conflict? |
 //! | [`bound`], [`bound_bytes`] | how far can a policy's new weight shift this group's sum of weights? |
+//! | [`check_parameter`] | is this a user's parameter, and how many codes does the check try? |
 //! | [`Sheet::open`], [`Sheet::sign`], [`Sheet::withdraw`], [`Sheet::ask`] | may those whose signatures stand release this permission? |
 //!
 //! The answer is the result, or the first [`Refusal`] that applies. A refused
@@ -50,6 +51,7 @@ mod decision;
 pub mod example;
 #[allow(unsafe_code)]
 mod library;
+mod parameter;
 mod refusal;
 mod report;
 mod resolution;
@@ -59,6 +61,7 @@ pub use bound::{bound, bound_bytes};
 pub use conflicts::{conflict_count, conflicts, conflicts_into, Conflict, CONFLICT_BYTES};
 pub use context::Context;
 pub use decision::{decide, decide_by, decide_by_bytes, decide_bytes, Entry};
+pub use parameter::{check_parameter, Tried};
 pub use refusal::Refusal;
 pub use report::{
     permissions, report, report_by, report_by_into, report_into, Permission, Report,

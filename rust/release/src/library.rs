@@ -70,6 +70,8 @@ mod foreign {
             group_len: usize,
         ) -> u64;
 
+        pub fn release_parameter(parameter: u32, roles: u32) -> u64;
+
         pub fn release_sheet_open(
             base: *const u8,
             base_len: usize,
@@ -200,6 +202,12 @@ pub fn bound(base: &[u8], policy: u32, weight: u32, group: &[u8]) -> u64 {
             group.len(),
         )
     }
+}
+
+/// The answer as refusal + 256 * tried.
+pub fn parameter(parameter: u32, roles: u32) -> u64 {
+    // SAFETY: the library is handed two numbers, and no pointer.
+    unsafe { foreign::release_parameter(parameter, roles) }
 }
 
 pub fn sheet_open(base: &[u8], permission: u32, sheet: &mut [u8; SHEET_BYTES]) -> u32 {

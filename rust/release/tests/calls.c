@@ -255,6 +255,32 @@ static void bounds(void) {
     expect("the base's first bytes as a group", 256 * 8, bound(2, 5, shop, 4));
 }
 
+/* The answer is refusal + 256 * tried, and 5 carries the number tried too. */
+static void parameters(void) {
+    uint64_t answer = release_parameter(21, 3);
+    expect("parameter", RELEASE_DONE, release_answer_refusal(answer));
+    expect("tried up to role 2", 3, release_answer_count(answer));
+    answer = release_parameter(9, 3);
+    expect("5", RELEASE_REFUSAL_USERS, release_answer_refusal(answer));
+    expect("all three tried", 3, release_answer_count(answer));
+    expect("no role", 0, release_parameter(1, 3));
+    expect("role 0", 256 * 1, release_parameter(3, 3));
+    expect("role 0 of eight", 256 * 1, release_parameter(3, 8));
+    expect("role 7", 256 * 8, release_parameter(23, 8));
+    expect("all roles", 256 * 8, release_parameter(111546435, 8));
+    expect("all eight roles of seven", 5 + 256 * 7, release_parameter(111546435, 7));
+    expect("parameter 0", 5 + 256 * 3, release_parameter(0, 3));
+    expect("role 3 of three", 5 + 256 * 3, release_parameter(11, 3));
+    expect("the largest number", 5 + 256 * 8, release_parameter(UINT32_MAX, 8));
+    expect("259 is not cut to 3", 5 + 256 * 8, release_parameter(259, 8));
+    expect("no role of none", 0, release_parameter(1, 0));
+    expect("role 0 of none", 5, release_parameter(3, 0));
+    expect("9 roles are 8", 256 * 8, release_parameter(23, 9));
+    expect("256 roles are 8", 256 * 8, release_parameter(23, 256));
+    expect("257 roles are 8", 5 + 256 * 8, release_parameter(9, 257));
+    expect("the largest number of roles is 8", 5 + 256 * 8, release_parameter(9, UINT32_MAX));
+}
+
 /* A sheet's bytes between guards. */
 struct guarded {
     uint8_t before[8];
@@ -492,6 +518,7 @@ int main(void) {
     reports_by();
     conflicts();
     bounds();
+    parameters();
     openings();
     signings();
     withdrawals();

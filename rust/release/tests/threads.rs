@@ -4,8 +4,8 @@ use std::thread::{self, Builder};
 
 use release::example::SMALL_SHOP;
 use release::{
-    bound_bytes, check, conflicts_into, decide_by_bytes, decide_bytes, report, report_by, Context,
-    Entry, Refusal, Resolution, Rule, Sheet,
+    bound_bytes, check, check_parameter, conflicts_into, decide_by_bytes, decide_bytes, report,
+    report_by, Context, Entry, Refusal, Resolution, Rule, Sheet, Tried,
 };
 
 const EARLY: Context = Context {
@@ -77,6 +77,9 @@ fn every_other_call_in_32_kib() {
     assert_eq!(listed, Ok(0));
     let shifted = within(LITTLE, || bound_bytes(&SMALL_SHOP, 2, 5, &[0, 0, 1, 1]));
     assert_eq!(shifted, Ok(8));
+    let tried = within(LITTLE, || check_parameter(111_546_434, 8));
+    let result = Err(Refusal::Users);
+    assert_eq!(tried, Tried { result, tried: 8 });
     let sheet = within(LITTLE, || signed_sheet(&out_of_reach())).expect("it is signed");
     let mut withdrawn = sheet.clone();
     let asked = within(LITTLE, move || sheet.ask(&out_of_reach(), EARLY));

@@ -15,6 +15,7 @@ mod groups;
 mod masks;
 mod multisets;
 mod operators;
+mod parameter;
 pub mod plan;
 mod related;
 mod resolution;
@@ -30,6 +31,7 @@ use resolution::Rules;
 use weights::{Setting, Weights};
 
 pub use bound::bound;
+pub use parameter::parameter;
 pub use sheet::{sheet_ask, sheet_open, sheet_sign, sheet_withdraw};
 
 /// The identity codes of roles 0 to 7.

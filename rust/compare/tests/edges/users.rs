@@ -145,3 +145,16 @@ fn a_bad_user_is_found_at_every_place() {
         expect_check(&base.bytes(), 5);
     }
 }
+
+/// For 1 no code is tried, for 3 one is.
+#[test]
+fn a_bad_user_is_found_among_users_of_few_roles() {
+    for parameter in [1, 3] {
+        for place in 0..24 {
+            let mut base = BaseBuilder::new(8);
+            base.users = vec![User { parameter }; 24];
+            base.users[place].parameter = 29 * parameter;
+            expect_check(&base.bytes(), 5);
+        }
+    }
+}

@@ -8,12 +8,14 @@ mod conflicts;
 mod decisions;
 mod listed;
 mod lists;
+mod parameters;
 mod readings;
 mod reports;
 mod seen;
 mod sheets;
 mod shifts;
 mod shifts_by_lists;
+mod tried;
 mod withdrawn;
 
 use std::time::{Duration, Instant};
@@ -34,6 +36,7 @@ fn seeded_comparison() {
     sheets::compare(&mut seen);
     bounds::compare(&mut seen);
     lists::compare(&mut seen);
+    parameters::compare(&mut seen);
     let taken = start.elapsed();
     seen.print(taken);
     seen.expect_all();

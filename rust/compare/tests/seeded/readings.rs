@@ -9,7 +9,7 @@ use compare::shown::{numbers, RECORD};
 use compare::{library_decision, library_report};
 use model::{Context, Reading, Sheet};
 
-use crate::{bounds, conflicts, decisions, lists, reports, sheets};
+use crate::{bounds, conflicts, decisions, lists, parameters, reports, sheets};
 
 /// Whether the library's decision isn't the model's by a reading.
 fn decision_differs(reading: Reading, base: &[u8], list: List, asked: &Asked) -> bool {
@@ -135,6 +135,17 @@ fn bounds_that_differ(reading: Reading) -> usize {
     found
 }
 
+/// In how many cases the library's check of a parameter isn't the model's by a
+/// reading.
+fn parameters_that_differ(reading: Reading) -> usize {
+    let mut found = 0;
+    parameters::parameters(2_000, |checked| {
+        let by_model = checked.by_model(reading);
+        found += usize::from(checked.by_library() != by_model);
+    });
+    found
+}
+
 /// Those of the decision, whose answers a report and an asking go by.
 const OF_DECISIONS: &[&str] = &[
     "decisions",
@@ -180,6 +191,7 @@ fn shows(reading: Reading) -> &'static [&'static str] {
         _ if Reading::WRONG_ON_SHEETS.contains(&reading) => &["signings"],
         _ if Reading::WRONG_OF_WITHDRAWAL.contains(&reading) => &["withdrawals"],
         _ if Reading::WRONG_OF_BOUNDS.contains(&reading) => &["bounds"],
+        _ if Reading::WRONG_OF_PARAMETERS.contains(&reading) => &["parameters"],
         _ if Reading::WRONG_OF_RESOLUTION.contains(&reading) => {
             &["decisions by lists", "reports by lists"]
         }
@@ -200,6 +212,7 @@ fn expect(reading: Reading) {
         ("bounds", bounds_that_differ(reading)),
         ("decisions by lists", decisions_by_that_differ(reading)),
         ("reports by lists", reports_by_that_differ(reading)),
+        ("parameters", parameters_that_differ(reading)),
     ];
     println!("{reading:?}: {found:?}");
     let found = found.iter().filter(|(_, count)| *count > 0);
@@ -221,4 +234,5 @@ fn every_wrong_reading_is_noticed() {
     Reading::WRONG_OF_BOUNDS.into_iter().for_each(expect);
     Reading::WRONG_OF_RESOLUTION.into_iter().for_each(expect);
     Reading::WRONG_OF_WITHDRAWAL.into_iter().for_each(expect);
+    Reading::WRONG_OF_PARAMETERS.into_iter().for_each(expect);
 }

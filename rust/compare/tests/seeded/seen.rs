@@ -1,6 +1,6 @@
 //! How often each answer, number of approvers, kind of conflict, number of
 //! signatures and bound was seen, how far below their roles users acted, what
-//! resolution lists decided, and who withdrew.
+//! resolution lists decided, who withdrew, and how many codes were tried.
 
 use std::io::Write;
 use std::time::Duration;
@@ -9,6 +9,7 @@ use compare::acting::Gain;
 use compare::tally::Tally;
 
 use crate::listed::Listed;
+use crate::tried::Tried;
 use crate::withdrawn::Withdrawn;
 
 /// The library's calls.
@@ -25,9 +26,10 @@ pub enum Call {
     Bound,
     DecideBy,
     ReportBy,
+    Parameter,
 }
 
-const CALLS: usize = 11;
+const CALLS: usize = 12;
 
 /// One past the last refusal's number.
 const REFUSALS: usize = 24;
@@ -44,6 +46,7 @@ const NAMES: [&str; CALLS] = [
     "bound",
     "decide_by",
     "report_by",
+    "parameter",
 ];
 
 /// The answers that each call can give.
@@ -61,6 +64,7 @@ const ANSWERS: [&[u8]; CALLS] = [
         0, 1, 2, 3, 4, 5, 6, 7, 8, 9, 22, 10, 11, 12, 13, 14, 15, 16, 17,
     ],
     &[0, 1, 2, 3, 4, 5, 6, 7, 8, 9, 22, 11, 19],
+    &[0, 5],
 ];
 
 /// Those that a sheet can get that calls made: no user stands on it twice.
@@ -81,9 +85,10 @@ const GAINS: [(Gain, &str); 3] = [
     (Gain::Group, "a group only by acting below a role held"),
 ];
 
-/// The fewest cases of each call: 900,000 and more in all.
+/// The fewest cases of each call: 1,100,000 and more in all.
 const FEWEST: [usize; CALLS] = [
     100_000, 150_000, 20_000, 40_000, 20_000, 100_000, 100_000, 100_000, 100_000, 150_000, 30_000,
+    200_000,
 ];
 
 #[derive(Default)]
@@ -104,6 +109,7 @@ pub struct Seen {
     reached: Tally<8>,
     pub lists: Listed,
     pub withdrawn: Withdrawn,
+    pub tried: Tried,
 }
 
 impl Seen {
@@ -227,6 +233,7 @@ impl Seen {
             .chain(gains)
             .chain(self.lists.lines())
             .chain(self.withdrawn.lines())
+            .chain(self.tried.lines())
             .chain([last])
             .collect();
         let text = format!("\n{}\n", lines.join("\n"));
@@ -257,6 +264,7 @@ impl Seen {
         self.bounds.expect_exactly("bound", BOUNDS);
         self.lists.expect_all();
         self.withdrawn.expect_all();
+        self.tried.expect_all();
     }
 }
 
