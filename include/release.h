@@ -263,15 +263,17 @@ uint64_t release_bound(const uint8_t *base, size_t base_len,
  * base, and no byte is read or written.
  *
  * The codes of roles 0 to 7 are 3, 5, 7, 11, 13, 17, 19 and 23. The check tries
- * them in role order and ends as soon as the rest is 1. The number tried is 0 for
- * parameter 1; for any other that passes, the highest role's number plus one; and
- * for one that is refused, the number of roles. So 5 carries a number here, as no
- * refusal but 18 does elsewhere.
+ * them in role order, divides out each one that divides what is left of the
+ * parameter, and ends as soon as 1 is left. The number tried is 0 for parameter 1;
+ * for any other that passes, the highest role's number plus one; and for one that
+ * is refused, the number of roles. So 5 carries a number here, as no refusal but
+ * 18 does elsewhere.
  *
  * More than 8 roles are read as 8. Numbers aren't cut: 256 and 257 roles are read
  * as 8, and parameter 259 isn't 3. With 0 roles parameter 1 passes, every other
  * gets 5, and none is tried. A base has 1 to 8 roles; release_check gives 5, after
- * 1 to 4, where this call gives it for the parameter of one of the users.
+ * 1 to 4, where this call, with the base's number of roles, gives it for the
+ * parameter of one of the users.
  */
 uint64_t release_parameter(uint32_t parameter, uint32_t roles);
 

@@ -9,7 +9,7 @@ use native.Mathlib.Numerals.{add-one}
 use native.Mathlib.Nat.{not-suc-le-zero, eq-or-lt-of-le, le-of-suc-le-suc, mod-eq-of-lt}
 use native.Mathlib.Omega.{arith}
 use lib.Dec.{eqb}
-use borrow.Author.Tests.{eqb-true, eq-eqb, le-ltb}
+use borrow.Author.Tests.{eqb-true, eq-eqb, lt-ltb, le-ltb}
 use Rattle.folds.specs.Below.{anyBelow, firstBelow}
 use Rattle.folds.specs.Sets.{inSet}
 use Rattle.folds.proofs.Bools.{met-or-not, never-met, clash}
@@ -18,7 +18,7 @@ use Rattle.folds.proofs.Sets.{in-set-below, same-set}
 use Rattle.reader.specs.Tables.{users, recordCount}
 use Rattle.reader.specs.Fields.{parameter}
 use Rattle.reader.specs.Rules.{usersBad}
-use Rattle.reader.specs.Codes.{codeProduct, parameterOk, codeDivides, productSet, highestBelow, codesTried}
+use Rattle.reader.specs.Codes.{codeProduct, parameterOk, codeDivides, rolesOfProduct, highestBelow, codesTried}
 use Rattle.reader.specs.Codes.{rolesRead, parameterAnswer}
 use Rattle.reader.proofs.Parameter.{restOf, rest-none, rest-left, rest-one, rest-divides, code-big}
 use Rattle.reader.proofs.Parameter.{product-divides}
@@ -67,8 +67,8 @@ tried-refused R x h bad =
     rw (other, bad)
 
 -- of an accepted parameter, the set of roles is one below R, and the parameter is its product
-set-product : (R x : ℕ) → parameterOk R x ≡ true → (productSet R x < 2 ^ R) × (x ≡ codeProduct R (productSet R x))
-unfolding parameterOk productSet
+set-product : (R x : ℕ) → parameterOk R x ≡ true → (rolesOfProduct R x < 2 ^ R) × (x ≡ codeProduct R (rolesOfProduct R x))
+unfolding parameterOk rolesOfProduct
 set-product R x ok =
     let p : ℕ → Bool = λ s. eqb x (codeProduct R s) in
     let low = first-lt p (2 ^ R) ok in
@@ -89,9 +89,9 @@ pub tried-held : (R x r : ℕ) → R ≤ 8 → r < R → parameterOk R x ≡ tru
 unfolding codesTried
 tried-held R x r h low ok held none =
     let (_, whole) = set-product R x ok in
-    let in-it : (k : ℕ) → k < R → inSet (productSet R x) k ≡ codeDivides k x =
-    λ k l. sym (ap (codeDivides k) whole ∙ product-divides R (productSet R x) k h l) in
-    let highest : highestBelow R (productSet R x) ≡ r =
+    let in-it : (k : ℕ) → k < R → inSet (rolesOfProduct R x) k ≡ codeDivides k x =
+    λ k l. sym (ap (codeDivides k) whole ∙ product-divides R (rolesOfProduct R x) k h l) in
+    let highest : highestBelow R (rolesOfProduct R x) ≡ r =
     highest-is R _ r low (in-it r low ∙ held) (λ k above l. in-it k l ∙ none k above l) in
     let undivided : eqb x 1 ≡ true → codeDivides r x ≡ false =
     λ e. rw (eqb-true x 1 e) (one-undivided r (omega arith)) in
@@ -110,7 +110,7 @@ tried-highest R x s r h l whole m none =
     tried-held R x r h low ok (in-it r low ∙ m) (λ k above there. in-it k there ∙ none k above)
 
 -- there is just one set of roles below R whose product a parameter is
-pub set-is : (R s : ℕ) → R ≤ 8 → s < 2 ^ R → productSet R (codeProduct R s) ≡ s
+pub set-is : (R s : ℕ) → R ≤ 8 → s < 2 ^ R → rolesOfProduct R (codeProduct R s) ≡ s
 unfolding parameterOk
 set-is R s h l =
     let x : ℕ = codeProduct R s in
@@ -118,11 +118,22 @@ set-is R s h l =
     let (low, whole) = set-product R x ok in
     same-set R _ s low l
     (λ r there.
-    sym (product-divides R (productSet R x) r h there) ∙ sym (ap (codeDivides r) whole) ∙ product-divides R s r h there)
+    sym (product-divides R (rolesOfProduct R x) r h there) ∙ sym (ap (codeDivides r) whole) ∙ product-divides R s r h there)
 
 -- so many roles as a base can have are read as they are
-rolesRead-few : (R : ℕ) → R ≤ 8 → rolesRead R ≡ R
-rolesRead-few R h = rw (le-ltb _ _ h)
+read-few : (R : ℕ) → R ≤ 8 → rolesRead R ≡ R
+read-few R h = rw (le-ltb _ _ h)
+
+-- the answer for so many roles
+pub answer-few : (R x : ℕ) → R ≤ 8 →
+    parameterAnswer R x ≡ record { refusal = cond (parameterOk R x) 0 5; count = codesTried R x }
+unfolding parameterAnswer
+answer-few R x h = rw (read-few R h)
+
+-- and for more: that for eight
+pub answer-more : (n x : ℕ) → 8 < n → parameterAnswer n x ≡ parameterAnswer 8 x
+unfolding parameterAnswer
+answer-more n x h = rw (lt-ltb _ _ h)
 
 -- refusal 5 of a base is the answer 5 to the parameter of one of its users
 pub users-answered : (R : ℕ) (u : List ℕ) → R ≤ 8 →
@@ -130,7 +141,7 @@ pub users-answered : (R : ℕ) (u : List ℕ) → R ≤ 8 →
 unfolding usersBad parameterAnswer
 users-answered R u h =
     any-same _ _ (recordCount users u)
-    (λ i l. rw (rolesRead-few R h) (by (parameterOk R (parameter u i))))
+    (λ i l. rw (read-few R h) (by (parameterOk R (parameter u i))))
   where
     by : (ok : Bool) → not ok ≡ eqb (cond ok 0 5) 5
     by true = refl

@@ -41,9 +41,9 @@ abbrev pub holds : List ℕ → ℕ → ℕ → Bool
 holds b u r = heldBy (roleCount b) (tableOf b users) u r
 
 -- the set of roles below R whose product x is; 2 ^ R, which is no such set, where x is no product
-unfoldable pub productSet : ℕ → ℕ → ℕ
+unfoldable pub rolesOfProduct : ℕ → ℕ → ℕ
 unfolding firstBelow
-productSet R x = firstBelow (2 ^ R) (λ s. eqb x (codeProduct R s))
+rolesOfProduct R x = firstBelow (2 ^ R) (λ s. eqb x (codeProduct R s))
 
 -- the highest of the roles below n that are in the set s; 0 where there is none
 unfoldable pub highestBelow : ℕ → ℕ → ℕ
@@ -56,13 +56,13 @@ unfoldable pub codesTried : ℕ → ℕ → ℕ
 codesTried R x =
     cond (eqb x 1) 0
     (cond (not (parameterOk R x)) R
-    (highestBelow R (productSet R x) + 1))
+    (highestBelow R (rolesOfProduct R x) + 1))
 
 -- roles above 8 are read as 8
 abbrev pub rolesRead : ℕ → ℕ
 rolesRead n = cond (ltb 8 n) 8 n
 
--- the answer to the check of the parameter x with n roles: 0 or 5, and how many codes were tried, of 5 too
+-- the answer to the check of the parameter x with n roles: 0 or 5; both carry how many codes were tried
 unfoldable pub parameterAnswer : ℕ → ℕ → Answer
 parameterAnswer n x =
     record { refusal = cond (parameterOk (rolesRead n) x) 0 5; count = codesTried (rolesRead n) x }

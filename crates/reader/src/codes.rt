@@ -41,9 +41,9 @@ fn quotient(r: usize, x: u32) -> u32
 }
 
 // What the check of one parameter tells: whether it passes, and how many codes were tried.
-pub struct Tried {
-    pub ok: bool,
-    pub tried: u8,
+struct Tried {
+    ok: bool,
+    tried: u8,
 }
 
 // Tries the codes of the roles below `roles` on the parameter, in role order: one that divides the rest is divided out.
@@ -93,7 +93,7 @@ fn roles_read(roles: u32) -> u8
     roles as u8
 }
 
-// Entry point: the check of one parameter with so many roles: 0, or 5; and how many codes were tried, of 5 too.
+// Entry point: the check of one parameter with so many roles: 0 or 5; both carry how many codes were tried.
 pub fn check_parameter(parameter: u32, roles: u32) -> Answer
     ensures { λ r. ⌜ r ≡ parameterAnswer roles parameter ⌝ }
 {

@@ -1,10 +1,10 @@
 -- The worked parameters: by computing both sides.
 use mathlib.Core.Path.{refl}
-use Rattle.reader.specs.Codes.{codeProduct, parameterOk, productSet, highestBelow, codesTried, parameterAnswer}
+use Rattle.reader.specs.Codes.{codeProduct, parameterOk, rolesOfProduct, highestBelow, codesTried, parameterAnswer}
 use Rattle.shop.specs.Parameters.{Parameters}
 
 pub parameters : Parameters
-unfolding parameterOk codeProduct productSet highestBelow codesTried parameterAnswer
+unfolding parameterOk codeProduct rolesOfProduct highestBelow codesTried parameterAnswer
 parameters = record {
   manager = refl;
   buyer = refl;
@@ -13,7 +13,15 @@ parameters = record {
   all-three = refl;
   zero = refl;
   square = refl;
+  not-there = refl;
+  role-0 = refl;
+  role-1 = refl;
+  role-2 = refl;
   role-3 = refl;
+  role-4 = refl;
+  role-5 = refl;
+  role-6 = refl;
+  role-7 = refl;
   first-two = refl;
   first-and-last = refl;
   all-eight = refl;

@@ -19,8 +19,17 @@ pub record Parameters : Type 0 where
   pub all-three : parameterAnswer 3 105 ≡ passed 3
   pub zero : parameterAnswer 3 0 ≡ refused 3
   pub square : parameterAnswer 3 9 ≡ refused 3
-  pub role-3 : parameterAnswer 3 11 ≡ refused 3
-  -- eight roles: the first two, the first and the last, all, and all but one code and 2
+  pub not-there : parameterAnswer 3 11 ≡ refused 3
+  -- eight roles, one by one
+  pub role-0 : parameterAnswer 8 3 ≡ passed 1
+  pub role-1 : parameterAnswer 8 5 ≡ passed 2
+  pub role-2 : parameterAnswer 8 7 ≡ passed 3
+  pub role-3 : parameterAnswer 8 11 ≡ passed 4
+  pub role-4 : parameterAnswer 8 13 ≡ passed 5
+  pub role-5 : parameterAnswer 8 17 ≡ passed 6
+  pub role-6 : parameterAnswer 8 19 ≡ passed 7
+  pub role-7 : parameterAnswer 8 23 ≡ passed 8
+  -- the first two, the first and the last, all, and the product of all but the last times 2
   pub first-two : parameterAnswer 8 15 ≡ passed 2
   pub first-and-last : parameterAnswer 8 69 ≡ passed 8
   pub all-eight : parameterAnswer 8 111546435 ≡ passed 8

@@ -18,13 +18,14 @@ pub struct Tried {
 /// codes the check tries. No base is consulted.
 ///
 /// Roles 0 to 7 have the codes 3, 5, 7, 11, 13, 17, 19 and 23. The check tries
-/// them in this order and ends as soon as the rest is 1. So none is tried for 1;
-/// of any other parameter that passes, as many as the highest role's number plus
-/// one; and of one that gets [`Refusal::Users`], the codes of all roles.
+/// them in this order, divides out each one that divides what is left of the
+/// parameter, and ends as soon as 1 is left. So none is tried for 1; of any other
+/// parameter that passes, as many as the highest role's number plus one; and of
+/// one that gets [`Refusal::Users`], the codes of all roles.
 ///
 /// More than 8 roles are read as 8. The numbers aren't cut: 256 roles are read so
 /// too. With 0 roles 1 alone passes, and no code is tried. A base has 1 to 8, and
-/// [`check`](crate::check) refuses it for the same parameters.
+/// [`check`](crate::check) refuses it for the same parameters with as many.
 ///
 /// ```
 /// use release::{check_parameter, Refusal, Tried};
@@ -33,7 +34,7 @@ pub struct Tried {
 /// let passed = check_parameter(21, 3);
 /// assert_eq!(passed, Tried { result: Ok(()), tried: 3 });
 ///
-/// // The first code alone, of however many roles.
+/// // The first code alone, of eight roles.
 /// assert_eq!(check_parameter(3, 8), Tried { result: Ok(()), tried: 1 });
 ///
 /// // 9 has a code twice.

@@ -44,21 +44,38 @@ unfolding allBelow
 inverse32-lt r h = ltb-true _ _ (all-at (λ k. ltb (inverse32 k) 4294967296) 8 refl r h)
 
 -- what the code computes: a product that fits 8 bytes, and is the quotient modulo 2^32
-module _ (r x : ℕ) (low : r < 8) (fits : x < 4294967296) where
+module _ (r x : ℕ) (r-low : r < 8) (x-fits : x < 4294967296) where
   product-fits : Fits w64 (x * inverse32 r)
   product-fits =
-      let small = inverse32-lt r low in
+      let small = inverse32-lt r r-low in
       let most : ℕ = 4294967295 in
       let le : x * inverse32 r ≤ most * most = mul-le-mul {n₂ = most} {m₂ = most} (omega arith) (omega arith) in
       omega (arith, le)
 
   product-is : codeDivides r x ≡ true → x * inverse32 r % 4294967296 ≡ x / codeOf r
-  product-is divides =
+  product-is d =
       let q : ℕ = x / codeOf r in
-      let whole : x ≡ q * codeOf r = sym (div-mul-cancel (codeOf r) (true-divides r x divides)) in
-      let less : q < 4294967296 = lt-of-le-of-lt (div-le-self x (codeOf r)) fits in
+      let whole : x ≡ q * codeOf r = sym (div-mul-cancel (codeOf r) (true-divides r x d)) in
+      let less : q < 4294967296 = lt-of-le-of-lt (div-le-self x (codeOf r)) x-fits in
       ap (λ (y : ℕ). y * inverse32 r % 4294967296) whole ∙
-      exact (codeOf r) (inverse32 r) q 4294967296 (inverse32-is r low) less
+      exact (codeOf r) (inverse32 r) q 4294967296 (inverse32-is r r-low) less
+
+-- the entry
+module _ (s : tie.Start) where
+  abbrev role : ℕ
+  role = s .args .r
+
+  abbrev number : ℕ
+  number = s .args .x
+
+  low : role < 8
+  low = s .pre .0
+
+  divides : codeDivides role number ≡ true
+  divides = s .pre .1
+
+  fits : number < 4294967296
+  fits = search needs
 
 mul-result : tie.Need-mul-result
 mul-result c = search needs
@@ -67,13 +84,13 @@ array-read-result : tie.Need-array-read-result
 array-read-result c = search needs
 
 mul-result-2 : tie.Need-mul-result-2
-mul-result-2 c = product-fits (c .args .r) (c .args .x) (c .pre .0) (search needs)
+mul-result-2 c = product-fits (role c) (number c) (low c) (fits c)
 
 cast-result : tie.Need-cast-result
 cast-result c = search needs
 
 returns : tie.Need-returns
-returns c = product-is (c .args .r) (c .args .x) (c .pre .0) (search needs) (c .pre .1)
+returns c = product-is (role c) (number c) (low c) (fits c) (divides c)
 
 pub quotient-spec : {M : Type 1} → statement M
 quotient-spec = tie.close (tie.spec mul-result array-read-result mul-result-2 cast-result returns)
