@@ -57,6 +57,7 @@ fn try_codes(table: &[u32], x: u32, roles: u8) -> Tried
     let mut rest = x;
     let mut tried: u8 = 0;
     for r in 0..table.len() {
+        let code = table[r];
         if rest == 1 {
             return Tried { ok: true, tried };
         }
@@ -64,7 +65,7 @@ fn try_codes(table: &[u32], x: u32, roles: u8) -> Tried
             return Tried { ok: false, tried };
         }
         tried = tried + 1;
-        if rest % table[r] == 0 {
+        if rest % code == 0 {
             rest = quotient(r, rest);
         }
     }

@@ -4,6 +4,18 @@ use model::Answer;
 
 use crate::CODES;
 
+/// The codes' inverses modulo 2^32.
+const INVERSES: [u32; 8] = [
+    2_863_311_531,
+    3_435_973_837,
+    3_067_833_783,
+    3_123_612_579,
+    3_303_820_997,
+    4_042_322_161,
+    678_152_731,
+    3_921_491_879,
+];
+
 /// 0 if dividing by codes leaves 1, else 5; and how many codes were tried.
 pub fn parameter(parameter: u32, roles: u32) -> Answer {
     let (rest, count) = divided(parameter, roles);
@@ -12,16 +24,19 @@ pub fn parameter(parameter: u32, roles: u32) -> Answer {
 }
 
 /// Tries the codes of roles below R in role order and divides by each once, until
-/// the rest is 1: the rest, and how many were tried.
+/// the rest is 1: the rest, and how many were tried. Of the multiples of a code,
+/// and of no other number, the product with its inverse is small enough to be a
+/// quotient, and is theirs.
 #[inline(always)]
 pub fn divided(parameter: u32, roles: u32) -> (u32, u32) {
     let mut rest = parameter;
-    for (role, code) in (0..8).zip(CODES) {
+    for (role, (code, inverse)) in (0..8).zip(CODES.into_iter().zip(INVERSES)) {
         if rest == 1 || roles <= role {
             return (rest, role);
         }
-        if rest.is_multiple_of(code) {
-            rest /= code;
+        let quotient = rest.wrapping_mul(inverse);
+        if quotient <= u32::MAX / code {
+            rest = quotient;
         }
     }
     (rest, 8)

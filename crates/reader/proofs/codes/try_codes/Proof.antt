@@ -14,7 +14,7 @@ use Rattle.folds.proofs.Bools.{met-or-not, clash}
 use Rattle.folds.proofs.Tests.{any-at}
 use Rattle.folds.proofs.Searches.{NoneYet, none-at-first, none-further}
 use Rattle.reader.specs.Codes.{codes, codeOf, codeDivides, parameterOk, codesTried}
-use Rattle.reader.proofs.Parameter.{restOf, rest-none, rest-taken, rest-left, rest-one, code-pos}
+use Rattle.reader.proofs.Parameter.{restOf, rest-none, rest-taken, rest-left, rest-one, code-big}
 use Rattle.reader.proofs.Trying.{wider, tried-refused, tried-least}
 use Rattle.reader.proofs.codes.try_codes.Statement.{statement}
 use Rattle.reader.proofs.codes.try_codes.Tie as tie
@@ -134,18 +134,26 @@ at-loop c =
 abbrev in-loop : tie.In-loop Inv-loop μ-loop → Here
 in-loop c = at-loop (c .before)
 
+abbrev reading : tie.After-shared-slice-known2 Inv-loop μ-loop → Here
+reading c = in-loop (c .before)
+
 abbrev past1 : tie.Else1 Inv-loop μ-loop → Here
-past1 c = in-loop (c .before)
+past1 c = reading (c .before)
 
 abbrev past2 : tie.Else2 Inv-loop μ-loop → Here
 past2 c = past1 (c .before)
 
-abbrev reading : tie.After-shared-slice-known2 Inv-loop μ-loop → Here
-reading c = past2 (c .before)
+-- the code that is read is above 1
+big : (c : tie.After-shared-slice-known2 Inv-loop μ-loop) → 1 < getD (reading c .table) (reading c .r) 0
+big c =
+    let h = reading c in
+    let eight = size (h .are) in
+    let there : h .r < 8 = omega arith in
+    rw (code-at (h .are) (h .r)) (code-big (h .r) there)
 
 -- the rest isn't 1
 other : (c : tie.Else1 Inv-loop μ-loop) → past1 c .rest ≡ 1 → ⊥
-other c e = let left = c .if1 .left in omega (arith, e)
+other c e = let code = big (c .before) in omega (arith, e)
 
 -- role r is one of the base's
 low : (c : tie.Else2 Inv-loop μ-loop) → past2 c .r < past2 c .roles
@@ -156,12 +164,12 @@ coded : (c : tie.Else2 Inv-loop μ-loop) → past2 c .r < 8
 coded c = let few = past2 c .few in let below = low c in omega arith
 
 -- where the arms meet
-joined : (c : tie.Joined3 Inv-loop μ-loop) → let h = reading (c .before) in
+joined : (c : tie.Joined3 Inv-loop μ-loop) → let h = past2 (c .before) in
     Turn (h .x) (h .roles) (c .if3 .rest) (h .tried + 1) (h .r + 1)
 joined c =
-    let h = reading (c .before) in
-    let below = low (c .before .before) in
-    let left = other (c .before .before .before) in
+    let h = past2 (c .before) in
+    let below = low (c .before) in
+    let left = other (c .before .before) in
     elim (c .if3 .came) [
       | inl d ↦ divided (h .few) (h .turn) below left (divides (h .are) _ _ (d .0 .taken)) (d .2 ∙ d .1 .ensures)
       | inr d ↦ kept (h .few) (h .turn) below left (divides-not (h .are) _ _ (d .0 .left)) (d .1)
@@ -170,9 +178,15 @@ joined c =
 loop-holds : tie.Need-loop-holds Inv-loop μ-loop
 loop-holds c = let a = c .before .args in first (a .x) (a .roles)
 
+mul-code : tie.Need-mul-code Inv-loop μ-loop
+mul-code c = search needs
+
+shared-slice-read-code : tie.Need-shared-slice-read-code Inv-loop μ-loop
+shared-slice-read-code c = search needs
+
 returns : tie.Need-returns Inv-loop μ-loop
 returns c =
-    let h = in-loop (c .before) in
+    let h = reading (c .before) in
     let one : h .rest ≡ 1 = omega arith in
     ended (h .few) (h .turn) one
 
@@ -188,19 +202,13 @@ add-tried c =
     let below = coded c in
     omega arith
 
-mul-if3 : tie.Need-mul-if3 Inv-loop μ-loop
-mul-if3 c = search needs
-
-shared-slice-read-if3 : tie.Need-shared-slice-read-if3 Inv-loop μ-loop
-shared-slice-read-if3 c = search needs
-
 rem-if3 : tie.Need-rem-if3 Inv-loop μ-loop
-rem-if3 c = let h = reading c in rw (code-at (h .are) (h .r)) (code-pos (h .r) (coded (c .before)))
+rem-if3 c = let code = big (c .before .before) in omega arith
 
 quotient-requires : tie.Need-quotient-requires Inv-loop μ-loop
 quotient-requires c κs =
-    let h = reading (c .before) in
-    (coded (c .before .before), divides (h .are) (h .r) (h .rest) (c .if3 .taken))
+    let h = past2 (c .before) in
+    (coded (c .before), divides (h .are) (h .r) (h .rest) (c .if3 .taken))
 
 add-r : tie.Need-add-r Inv-loop μ-loop
 add-r c = search needs
@@ -225,11 +233,11 @@ try-codes-spec =
     Inv-loop
     μ-loop
     loop-holds
+    mul-code
+    shared-slice-read-code
     returns
     returns-2
     add-tried
-    mul-if3
-    shared-slice-read-if3
     rem-if3
     quotient-requires
     add-r
