@@ -10,7 +10,7 @@ use native.Mathlib.Nat.{not-suc-le-zero, eq-or-lt-of-le, le-of-suc-le-suc, mod-e
 use native.Mathlib.Omega.{arith}
 use lib.Dec.{eqb}
 use borrow.Author.Tests.{eqb-true, eq-eqb, lt-ltb, le-ltb}
-use Rattle.folds.specs.Below.{anyBelow, firstBelow}
+use Rattle.folds.specs.Below.{anyBelow}
 use Rattle.folds.specs.Sets.{inSet}
 use Rattle.folds.proofs.Bools.{met-or-not, never-met, clash}
 use Rattle.folds.proofs.Tests.{split, any-found, any-same, first-lt, first-at}
@@ -67,12 +67,19 @@ tried-refused R x h bad =
     rw (other, bad)
 
 -- of an accepted parameter, the set of roles is one below R, and the parameter is its product
-set-product : (R x : ℕ) → parameterOk R x ≡ true → (rolesOfProduct R x < 2 ^ R) × (x ≡ codeProduct R (rolesOfProduct R x))
+set-product : (R x : ℕ) → parameterOk R x ≡ true →
+    (rolesOfProduct R x < 2 ^ R) × (x ≡ codeProduct R (rolesOfProduct R x))
 unfolding parameterOk rolesOfProduct
 set-product R x ok =
     let p : ℕ → Bool = λ s. eqb x (codeProduct R s) in
     let low = first-lt p (2 ^ R) ok in
     (low, eqb-true _ _ (first-at p (2 ^ R) low))
+
+-- in it are the roles whose codes divide the parameter
+in-roles : (R x k : ℕ) → R ≤ 8 → parameterOk R x ≡ true → k < R → inSet (rolesOfProduct R x) k ≡ codeDivides k x
+in-roles R x k h ok l =
+    let (_, whole) = set-product R x ok in
+    sym (ap (codeDivides k) whole ∙ product-divides R (rolesOfProduct R x) k h l)
 
 -- the highest role is the one in the set above which there is none
 highest-is : (n s r : ℕ) → r < n → inSet s r ≡ true → ((k : ℕ) → r < k → k < n → inSet s k ≡ false) →
@@ -88,26 +95,28 @@ pub tried-held : (R x r : ℕ) → R ≤ 8 → r < R → parameterOk R x ≡ tru
     ((k : ℕ) → r < k → k < R → codeDivides k x ≡ false) → codesTried R x ≡ r + 1
 unfolding codesTried
 tried-held R x r h low ok held none =
-    let (_, whole) = set-product R x ok in
-    let in-it : (k : ℕ) → k < R → inSet (rolesOfProduct R x) k ≡ codeDivides k x =
-    λ k l. sym (ap (codeDivides k) whole ∙ product-divides R (rolesOfProduct R x) k h l) in
-    let highest : highestBelow R (rolesOfProduct R x) ≡ r =
-    highest-is R _ r low (in-it r low ∙ held) (λ k above l. in-it k l ∙ none k above l) in
-    let undivided : eqb x 1 ≡ true → codeDivides r x ≡ false =
-    λ e. rw (eqb-true x 1 e) (one-undivided r (omega arith)) in
-    let other : eqb x 1 ≡ false = never-met _ (λ e. clash _ held (undivided e)) in
-    rw (other, ok, highest)
+    rw (other, ok, highest-is R _ r low (in-roles R x r h ok low ∙ held) above)
+  where
+    above : (k : ℕ) → r < k → k < R → inSet (rolesOfProduct R x) k ≡ false
+    above k a l = in-roles R x k h ok l ∙ none k a l
+
+    undivided : eqb x 1 ≡ true → codeDivides r x ≡ false
+    undivided e = rw (eqb-true x 1 e) (one-undivided r (omega arith))
+
+    other : eqb x 1 ≡ false
+    other = never-met _ (λ e. clash _ held (undivided e))
 
 -- the same by any set of roles whose product the parameter is
 pub tried-highest : (R x s r : ℕ) → R ≤ 8 → s < 2 ^ R → x ≡ codeProduct R s → inSet s r ≡ true →
     ((k : ℕ) → r < k → inSet s k ≡ false) → codesTried R x ≡ r + 1
 unfolding parameterOk
 tried-highest R x s r h l whole m none =
-    let in-it : (k : ℕ) → k < R → codeDivides k x ≡ inSet s k =
-    λ k low. ap (codeDivides k) whole ∙ product-divides R s k h low in
     let low : r < R = in-set-below R s r l m in
     let ok = any-found (λ t. eqb x (codeProduct R t)) (2 ^ R) s l (eq-eqb _ _ whole) in
-    tried-held R x r h low ok (in-it r low ∙ m) (λ k above there. in-it k there ∙ none k above)
+    tried-held R x r h low ok (divisor r low ∙ m) (λ k above there. divisor k there ∙ none k above)
+  where
+    divisor : (k : ℕ) → k < R → codeDivides k x ≡ inSet s k
+    divisor k there = ap (codeDivides k) whole ∙ product-divides R s k h there
 
 -- there is just one set of roles below R whose product a parameter is
 pub set-is : (R s : ℕ) → R ≤ 8 → s < 2 ^ R → rolesOfProduct R (codeProduct R s) ≡ s
@@ -115,10 +124,8 @@ unfolding parameterOk
 set-is R s h l =
     let x : ℕ = codeProduct R s in
     let ok = any-found (λ t. eqb x (codeProduct R t)) (2 ^ R) s l (eq-eqb x x refl) in
-    let (low, whole) = set-product R x ok in
-    same-set R _ s low l
-    (λ r there.
-    sym (product-divides R (rolesOfProduct R x) r h there) ∙ sym (ap (codeDivides r) whole) ∙ product-divides R s r h there)
+    let (low, _) = set-product R x ok in
+    same-set R _ s low l (λ r there. in-roles R x r h ok there ∙ product-divides R s r h there)
 
 -- so many roles as a base can have are read as they are
 read-few : (R : ℕ) → R ≤ 8 → rolesRead R ≡ R

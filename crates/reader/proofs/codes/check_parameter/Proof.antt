@@ -1,10 +1,9 @@
 -- `check_parameter` meets its contract: the refusal by what the check tells, and the number of codes that it tried.
 use Prim.Native.Nat.{ℕ}
-use mathlib.Core.Bool.{Bool, true, false, cond}
+use mathlib.Core.Bool.{Bool, cond}
 use mathlib.Core.Path.{_≡_, refl}
 use mathlib.Core.Logic.{⊎-elim}
 use borrow.Author.Needs.{needs}
-use Rattle.reader.specs.declared.Answer.{Answer}
 use Rattle.reader.specs.Codes.{parameterOk, codesTried, rolesRead, parameterAnswer}
 use Rattle.reader.proofs.codes.check_parameter.Statement.{statement}
 use Rattle.reader.proofs.codes.check_parameter.Tie as tie

@@ -1,7 +1,7 @@
 -- `try_codes` meets its contract: before role r is tried, as many codes were, the rest is what they left of the
 -- parameter, and it wasn't 1 before. A turn is argued of plain values.
 use Prim.Native.Nat.{ℕ, _+_, _-_, _/_, _%_, _<_, _≤_}
-use mathlib.Core.Bool.{Bool, true, false}
+use mathlib.Core.Bool.{true, false}
 use mathlib.Core.List.{List}
 use mathlib.Core.Path.{_≡_, refl, sym, ap, _∙_}
 use mathlib.Core.Logic.{⊎-elim, inl, inr}
