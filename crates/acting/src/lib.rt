@@ -1,1 +1,2 @@
 // Theorems alone: what request Two changed, between holding and acting.
+#![tactic(auto)]

@@ -1,4 +1,6 @@
 // The conflict list: every pair of policies, or of a user and an exclusion, that conflicts, and no other.
+#![tactic(auto)]
+
 ghost use Rattle.std.specs.Prelude.{◌≡◌, length};
 ghost use Rattle.conflicts.specs.Conflicts.{conflict_answer, conflict_bytes};
 

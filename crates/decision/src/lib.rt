@@ -1,5 +1,7 @@
 // The decision: whether a group is granted a permission, by the first refusal of 1 to 17, and of 22 where a list is
 // lent, that applies.
+#![tactic(auto)]
+
 ghost use Rattle.std.specs.Prelude.{◌≡◌, ◌<◌};
 ghost use Rattle.reader.specs.Tables.{hierarchy, permission_count, table_of};
 ghost use Rattle.reader.specs.Rules.{refusal_of};

@@ -1,4 +1,6 @@
 // The C interface: one function for each call that answers with a number. A slice passes as a pointer and a length.
+#![tactic(auto)]
+
 ghost use Rattle.std.specs.Prelude.{◌≡◌, length};
 ghost use Rattle.reader.specs.Rules.{refusal_of};
 ghost use Rattle.reader.specs.Codes.{parameter_answer};

@@ -1,1 +1,2 @@
 // Definitions and laws alone: the bounded folds that every layer counts and searches with.
+#![tactic(auto)]

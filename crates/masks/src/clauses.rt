@@ -191,7 +191,7 @@ fn fill(masks: &mut [u64], count: usize, own: u64)
 
 // Inner: for each number of entries and each number of roles the clauses that it meets, and for each role those that
 // don't ask for it.
-#[derive(Drop)]
+#[derive(Clone, Copy)]
 pub struct Asked {
     pub entries: [u64; 7],
     pub numbers: [u64; 9],

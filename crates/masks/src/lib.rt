@@ -1,5 +1,7 @@
 // The masks of a permission: for each number of entries, each sum of weights and each set of roles the clauses that it
 // meets, as bits. A clause that is in all three masks is met.
+#![tactic(auto)]
+
 ghost use Rattle.masks.specs.Masks.{Ready, Masks};
 
 pub mod clauses;
@@ -7,7 +9,7 @@ mod rows;
 pub mod sets;
 
 // The entries placed already: how many, the sum of their weights and the set of their roles.
-#[derive(Drop)]
+#[derive(Clone, Copy)]
 pub struct Placed {
     pub count: usize,
     pub sum: usize,
@@ -15,7 +17,7 @@ pub struct Placed {
 }
 
 // What the roles weigh: the least and the largest weight, and one past the last role that has weight.
-#[derive(Drop)]
+#[derive(Clone, Copy)]
 pub struct Weighed {
     pub light: usize,
     pub heavy: usize,

@@ -32,7 +32,7 @@ fn quotient(r: usize, x: u32) -> u32
 }
 
 // What the check of one parameter tells: whether it passes, and how many codes were tried.
-#[derive(Drop)]
+#[derive(Clone, Copy)]
 struct Tried {
     ok: bool,
     tried: u8,

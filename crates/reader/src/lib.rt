@@ -1,4 +1,6 @@
 // The table reader: where each table of a policy base lies, and the base check (refusals 1 to 9).
+#![tactic(auto)]
+
 ghost use Rattle.std.specs.Prelude.{◌≡◌};
 ghost use Rattle.reader.specs.Tables.{table_of, frame_refusal};
 ghost use Rattle.reader.specs.Rules.{refusal_of, records_refusal};
@@ -26,7 +28,7 @@ pub const POLICIES: usize = 5;
 pub const EXCLUSIONS: usize = 6;
 
 // The answer of a call that also carries a number: 0 or the refusal, and the number.
-#[derive(Drop)]
+#[derive(Clone, Copy)]
 pub struct Answer {
     pub refusal: u8,
     pub count: u32,

@@ -1,4 +1,6 @@
 // The program: a context and a base from standard input, the report as text on standard output.
+#![tactic(auto)]
+
 use libc::{STDIN_FILENO, STDOUT_FILENO};
 
 mod listing;

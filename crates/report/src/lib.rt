@@ -1,4 +1,6 @@
 // The release report: the smallest group for each permission.
+#![tactic(auto)]
+
 ghost use Rattle.std.specs.Prelude.{◌≡◌, false, ◌*◌, ◌≤◌, length};
 ghost use Rattle.reader.specs.Tables.{permission_count};
 ghost use Rattle.reader.specs.Rules.{refusal_of};

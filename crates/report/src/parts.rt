@@ -42,7 +42,7 @@ fn part_of(n: usize, group: [u8; 12]) -> [u8; 13]
 }
 
 // A permission's 13 bytes, and up to which level the tables of the search are made.
-#[derive(Drop)]
+#[derive(Clone, Copy)]
 pub struct Part {
     pub bytes: [u8; 13],
     pub known: usize,

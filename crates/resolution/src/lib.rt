@@ -1,4 +1,6 @@
 // Which policy overrides which: a resolution list of rules.
+#![tactic(auto)]
+
 ghost use Rattle.std.specs.Prelude.{◌≡◌, ◌+◌, ◌*◌, ◌≤◌, ◌<◌, length, take};
 ghost use Rattle.resolution.specs.Resolution.{rule_before, goes_before, repeated, list_refused, lent};
 

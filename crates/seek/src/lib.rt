@@ -1,4 +1,6 @@
 // The fewest entries that meet a condition, told by masks of clauses.
+#![tactic(auto)]
+
 ghost use Rattle.std.specs.Prelude.{◌≡◌, List, ℕ, suc, ◌+◌, ◌*◌, ◌≤◌, length};
 ghost use Rattle.multisets.specs.Ranks.{first, Starts};
 ghost use Rattle.multisets.specs.Ends.{NextEnds};
@@ -113,7 +115,7 @@ fn meeting(
 }
 
 // A place of the level tried, or 3,003, and up to which level the tables are made.
-#[derive(Drop)]
+#[derive(Clone, Copy)]
 pub struct Tried {
     pub at: usize,
     pub known: usize,
@@ -160,7 +162,7 @@ fn try_level(
 }
 
 // The number of entries found, or 7, and their twelve bytes; and up to which level the tables are made.
-#[derive(Drop)]
+#[derive(Clone, Copy)]
 pub struct Found {
     pub n: usize,
     pub group: [u8; 12],

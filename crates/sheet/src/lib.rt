@@ -1,5 +1,7 @@
 // A sheet that collects signatures for one permission: opened, signed one by one against a base, asked; signatures can
 // be taken back.
+#![tactic(auto)]
+
 ghost use Rattle.std.specs.Prelude.{◌≡◌, ◌<◌};
 ghost use Rattle.sheet.specs.Sheets.{unsigned, opened, signed, asked, with_entry};
 ghost use Rattle.sheet.specs.Sheets.{held_on, holding, entries_without, withdrawn};
@@ -10,7 +12,7 @@ pub mod entries;
 pub mod form;
 
 // The permission, how many entries are claimed, and room for six of 2 bytes: user, role acted in.
-#[derive(Drop)]
+#[derive(Clone, Copy)]
 pub struct Sheet {
     pub permission: u8,
     pub count: u8,
@@ -18,7 +20,7 @@ pub struct Sheet {
 }
 
 // What opening, signing and withdrawing answer, 0 or a refusal, and the sheet afterwards.
-#[derive(Drop)]
+#[derive(Clone, Copy)]
 pub struct Outcome {
     pub refusal: u8,
     pub sheet: Sheet,

@@ -1,4 +1,6 @@
 // How much one weight can shift: the bound on what a changed weight of one policy does to a group's sum of weights.
+#![tactic(auto)]
+
 ghost use Rattle.std.specs.Prelude.{◌≡◌, ℕ, ◌*◌, ◌≤◌, ◌<◌, length};
 ghost use Rattle.reader.specs.Tables.{policies, record_count};
 ghost use Rattle.reader.specs.Fields.{policy_role, policy_weight};

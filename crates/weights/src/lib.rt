@@ -1,5 +1,7 @@
 // Contexts, seniority and weights: what a base and a context fix, each role's weight for a permission, and who may act
 // in a role.
+#![tactic(auto)]
+
 ghost use Rattle.std.specs.Prelude.{◌≡◌, List, [], ℕ, ◌<◌, ◌≤◌, length};
 ghost use Rattle.reader.specs.Tables.{hierarchy, table_of};
 ghost use Rattle.reader.specs.Rules.{refusal_of};
@@ -15,7 +17,7 @@ pub mod seniority;
 pub mod sets;
 
 // A context: parameters 0, 1 and 2 are the minute, the day and the zone.
-#[derive(Drop)]
+#[derive(Clone, Copy)]
 pub struct Context {
     pub minute: u32,
     pub day: u32,
@@ -24,7 +26,7 @@ pub struct Context {
 
 // What one base and context fix, with that context: the context numbers that hold, as a set, and each role's juniors,
 // a set a role. With them the rules of a resolution list, so many of the three as are listed; none without a list.
-#[derive(Drop)]
+#[derive(Clone, Copy)]
 pub struct Fixed {
     pub at: Context,
     pub contexts: u32,

@@ -18,7 +18,7 @@ pub fn is_met(operator: u8, x: u32, v: u32) -> bool
 }
 
 // The numbers from `low` to before `end` but for `but`.
-#[derive(Drop)]
+#[derive(Clone, Copy)]
 pub struct Range {
     pub low: usize,
     pub end: usize,
