@@ -1,18 +1,20 @@
 // The program: a context and a base from standard input, the report as text on standard output.
 #![tactic(auto)]
 
-use libc::{STDIN_FILENO, STDOUT_FILENO};
-
+mod input;
 mod listing;
 mod text;
 
+use std::io;
+use std::io::Write;
+
 // Reads until its buffer is full or the input ends, and prints the text for the whole input.
-fn main() {
+fn main(rt: HostRuntime) -> io::Result<()> {
     // 4 bytes of context, 2,364 of base, and one more, by which a longer base is seen
     let mut input = [0u8; 2369];
-    let read = io::read_full(STDIN_FILENO, &mut input);
+    let read = input::read_full(&mut rt.stdin(), &mut input)?;
     // sixteen lines of at most 47 bytes, and a last one
     let mut out = [0u8; 768];
     let n = listing::listing(&input, read, &mut out);
-    io::write_all(STDOUT_FILENO, &out[..n]);
+    io::writer(&rt).write_all(&out[..n])
 }

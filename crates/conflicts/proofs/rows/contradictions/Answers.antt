@@ -1,0 +1,54 @@
+-- `contradictions` meets its contract: each turn adds a row, and the rows by the related slots are those of the rules.
+use Rattle.std.proofs.Common.{ℕ, ◌≡◌, ◌/◌, List, length, arith}
+use lib.Dec.{lit<}
+use Rattle.folds.specs.Sets.{in_set}
+use Rattle.reader.specs.Tables.{contexts, policies, table_of}
+use Rattle.reader.specs.Rules.{refusal_of}
+use Rattle.reader.proofs.Accepted.{accepted, accepted_frame}
+use Rattle.weights.proofs.Weigh.{policies_fine}
+use Rattle.related.specs.Slots.{named, Relations}
+use Rattle.related.proofs.Relating.{whole_contexts}
+use Rattle.conflicts.specs.Rows.{contradict_by, Rows, Contradictions}
+use Rattle.conflicts.proofs.Tables.{few_policies}
+use Rattle.conflicts.proofs.Bits.{next_row, all_rows}
+use Rattle.conflicts.proofs.Found.{contradictions_found}
+use Rattle.conflicts.proofs.rows.contradictions.Goals as goal
+
+-- the rows of tables read are those of the base
+found : (b : List ℕ) {a c related rows : List ℕ} {names : ℕ} → refusal_of b ≡ 0 →
+    a ≡ table_of b policies → c ≡ table_of b contexts →
+    Relations c names related → ((s : ℕ) → in_set names s ≡ named a s) →
+    Rows (length a / 8) (length a / 8) (contradict_by related a) rows → Contradictions b rows
+found b ok a_is c_is relations named_are are =
+    contradictions_found b ok _ _ _ (rw c_is at relations) (rw a_is at named_are) (rw a_is at are)
+
+pub part-a-requires : goal.part-a-requires
+part-a-requires c = (accepted_frame _ c.requires, lit< tt)
+
+pub names-names-requires : goal.names-names-requires
+names-names-requires c = rw c.part-a.ensures (policies_fine _ c.requires)
+
+pub part-requires : goal.part-requires
+part-requires c = (accepted_frame _ c.requires, lit< tt)
+
+pub relations-related-requires : goal.relations-related-requires
+relations-related-requires c =
+    rw c.part.ensures ((accepted _ c.requires).contexts, whole_contexts _ c.requires)
+
+pub contradict_row-requires : goal.contradict_row-requires
+contradict_row-requires c =
+    let few = few_policies _ c.requires c.part-a.ensures in
+    (c.loop-i-test.true, few, rw c.part-a.ensures (policies_fine _ c.requires))
+
+pub bounds-rows-i : goal.bounds-rows-i
+bounds-rows-i c = let few = few_policies _ c.requires c.part-a.ensures in omega arith
+
+pub loop-i-preserved : goal.loop-i-preserved
+loop-i-preserved c =
+    let few = few_policies _ c.requires c.part-a.ensures in
+    next_row c.loop-i.invariant few c.loop-i-test.true c.contradict_row.result c.contradict_row.ensures
+
+pub returns : goal.returns
+returns c =
+    let all = all_rows c.loop-i.invariant c.loop-i-test.false in
+    found _ c.requires c.part-a.ensures c.part.ensures c.relations-related.ensures c.names-names.ensures all

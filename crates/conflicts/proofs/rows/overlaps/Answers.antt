@@ -1,0 +1,65 @@
+-- `overlaps` meets its contract: each turn adds a row, and the rows by the sets worked out are those of the rules.
+use Rattle.std.proofs.Common.{ℕ, ◌≡◌, ◌/◌, List, length, arith}
+use lib.Dec.{lit<}
+use Rattle.reader.specs.Tables.{hierarchy, policies, exclusions, table_of}
+use Rattle.reader.specs.Rules.{refusal_of}
+use Rattle.reader.proofs.Accepted.{accepted, accepted_frame}
+use Rattle.reader.proofs.Frame.{roles_range, permissions_le}
+use Rattle.weights.proofs.Weigh.{policies_small, policies_fine}
+use Rattle.weights.proofs.Chains.{hierarchy_wider}
+use Rattle.conflicts.specs.Rows.{Covers, Excluded, overlap_by, Rows, Overlaps}
+use Rattle.conflicts.proofs.Tables.{few_policies, exclusions_wider}
+use Rattle.conflicts.proofs.Bits.{next_row, all_rows}
+use Rattle.conflicts.proofs.Found.{overlaps_found}
+use Rattle.conflicts.proofs.rows.overlaps.Goals as goal
+
+-- the rows of tables read are those of the base
+found : (b : List ℕ) {a h x covered apart rows : List ℕ} → refusal_of b ≡ 0 →
+    a ≡ table_of b policies → h ≡ table_of b hierarchy → x ≡ table_of b exclusions →
+    Covers h a covered → Excluded x apart →
+    Rows (length a / 8) (length a / 8) (overlap_by apart covered a) rows → Overlaps b rows
+found b ok a_is h_is x_is covers excluded are =
+    overlaps_found b ok _ _ _ (rw (a_is, h_is) at covers) (rw x_is at excluded) (rw a_is at are)
+
+pub part-a-requires : goal.part-a-requires
+part-a-requires c = (accepted_frame _ c.requires, lit< tt)
+
+pub part-requires : goal.part-requires
+part-requires c = (accepted_frame _ c.requires, lit< tt)
+
+pub cover_sets-covered-requires : goal.cover_sets-covered-requires
+cover_sets-covered-requires c =
+    let f = accepted _ c.requires in (
+      rw c.part.ensures (hierarchy_wider _ _ (roles_range _ f.frame).1 f.hierarchy),
+      rw c.part-a.ensures (policies_fine _ c.requires),
+      few_policies _ c.requires c.part-a.ensures,
+    )
+
+pub part-requires-2 : goal.part-requires-2
+part-requires-2 c = (accepted_frame _ c.requires, lit< tt)
+
+pub excluded_sets-apart-requires : goal.excluded_sets-apart-requires
+excluded_sets-apart-requires c =
+    let f = accepted _ c.requires in
+    let roles = (roles_range _ f.frame).1 in
+    rw c.part-2.ensures (exclusions_wider _ _ 8 16 _ roles (permissions_le _ f.frame) f.exclusions)
+
+pub overlap_row-requires : goal.overlap_row-requires
+overlap_row-requires c =
+    let few = few_policies _ c.requires c.part-a.ensures in
+    (c.loop-i-test.true, few, rw c.part-a.ensures (policies_small _ c.requires))
+
+pub bounds-rows-i : goal.bounds-rows-i
+bounds-rows-i c = let few = few_policies _ c.requires c.part-a.ensures in omega arith
+
+pub loop-i-preserved : goal.loop-i-preserved
+loop-i-preserved c =
+    let few = few_policies _ c.requires c.part-a.ensures in
+    next_row c.loop-i.invariant few c.loop-i-test.true c.overlap_row.result c.overlap_row.ensures
+
+pub returns : goal.returns
+returns c =
+    let covers = c.cover_sets-covered.ensures in
+    let excluded = c.excluded_sets-apart.ensures in
+    let all = all_rows c.loop-i.invariant c.loop-i-test.false in
+    found _ c.requires c.part-a.ensures c.part.ensures c.part-2.ensures covers excluded all

@@ -1,0 +1,71 @@
+-- `write_row` meets its contract: each turn writes the record of the lowest bit left, and what is still to be written
+-- into what stands is the whole.
+use Rattle.std.proofs.Common.{ℕ, ◌≡◌, ◌+◌, ◌-◌, ◌<◌, ◌≤◌, List, ◌∷◌, [], length, sym, ap, arith, ◌∙◌}
+use Rattle.std.proofs.Common.{bit_and, pos_of_ne-zero}
+use lib.Bits.{and_le_r}
+use lib.Count.{count_trailing_zeros}
+use lib.ListN.{set, length-set}
+use lib.Seq.{sets}
+use Rattle.conflicts.specs.Rows.{row_records}
+use Rattle.conflicts.proofs.Lists.{sets_record, row_next, row_none}
+use Rattle.conflicts.proofs.writing.write_row.Invariants.{Turn}
+use Rattle.conflicts.proofs.writing.write_row.Goals as goal
+
+-- one turn, of plain values: the record of the lowest bit, and the others
+module _ {out₀ : List ℕ} {at kind first row : ℕ} {out : List ℕ} {next rest : ℕ}
+    (turn : Turn out₀ at kind first row out next rest) where
+  module _ (some : 0 < rest) where
+    abbrev lowest : ℕ
+    lowest = count_trailing_zeros 64 rest
+
+    abbrev others : ℕ
+    others = bit_and rest (rest - 1)
+
+    fewer : others < rest
+    fewer = let l = and_le_r rest (rest - 1) in omega arith
+
+    split : row_records kind first rest ≡ kind ∷ first ∷ lowest ∷ row_records kind first others
+    split = row_next kind first rest some turn.small
+
+    room : at + length (row_records kind first row) ≤ length out₀ → next + 3 ≤ length out
+    room enough = let more = ap length split in omega (arith, turn.place, turn.size)
+
+    again : let out' = set (set (set out next kind) (next + 1) first) (next + 2) lowest in
+        Turn out₀ at kind first row out' (next + 3) others
+    again =
+        let more = ap length split in
+        record {
+          small = omega (arith, fewer, turn.small);
+          place = omega (arith, turn.place);
+          size = simp length-set turn.size;
+          bytes = sets_record out next kind first lowest (row_records kind first others)
+              ∙ ap (λ (x : List ℕ). sets out next x) (sym split)
+              ∙ turn.bytes;
+        }
+
+  finished : rest ≡ 0 →
+      (next ≡ at + length (row_records kind first row)) × (out ≡ sets out₀ at (row_records kind first row))
+  finished none =
+      let empty : row_records kind first rest ≡ [] = rw none (row_none kind first) in
+      let left = ap length empty in
+      (omega (arith, turn.place), ap (λ (x : List ℕ). sets out next x) (sym empty) ∙ turn.bytes)
+
+pub bounds-out-next : goal.bounds-out-next
+bounds-out-next c =
+    let fits = room c.loop-rest.invariant (pos_of_ne-zero c.loop-rest-test.true) c.requires in omega arith
+
+pub bounds-out-next-in-loop-rest : goal.bounds-out-next-in-loop-rest
+bounds-out-next-in-loop-rest c =
+    let fits = room c.loop-rest.invariant (pos_of_ne-zero c.loop-rest-test.true) c.requires in
+    simp length-set (omega arith)
+
+pub bounds-out-next-in-loop-rest-2 : goal.bounds-out-next-in-loop-rest-2
+bounds-out-next-in-loop-rest-2 c =
+    let fits = room c.loop-rest.invariant (pos_of_ne-zero c.loop-rest-test.true) c.requires in
+    simp length-set (omega arith)
+
+pub loop-rest-preserved : goal.loop-rest-preserved
+loop-rest-preserved c = again c.loop-rest.invariant (pos_of_ne-zero c.loop-rest-test.true)
+
+pub returns : goal.returns
+returns c = finished c.loop-rest.invariant c.loop-rest-test.false

@@ -1,0 +1,7 @@
+-- Each field is read at its place.
+use Rattle.release_list.specs.Text.{context_of}
+use Rattle.release_list.proofs.listing.context_of.Goals as goal
+
+pub returns : goal.returns
+unfolding context_of
+returns c = rw c.get16.ensures

@@ -1,0 +1,23 @@
+-- An input of less than 4 bytes is refused, behind 4 bytes stands the base.
+use Rattle.std.proofs.Common.{ℕ, ◌-◌, ◌≡◌, List, length, take, drop, arith, length-drop}
+use lib.Seq.{take_all}
+use Rattle.weights.specs.declared.Context.{Context}
+use Rattle.release_list.specs.Text.{ascii, base_of, context_of}
+use Rattle.release_list.specs.Writing.{ReportListed}
+use Rattle.release_list.proofs.Answered.{count_short, short_listed, long_listed}
+use Rattle.release_list.proofs.listing.put_listing.Goals as goal
+
+-- the bytes from 4 to the end, as the code cuts them out, are the base
+base_listed : (input : List ℕ) {at : Context} {out after : List ℕ} {n : ℕ} → at ≡ context_of input →
+    ReportListed (take (length input - 4) (drop 4 input)) at out after n →
+    ReportListed (base_of input) (context_of input) out after n
+base_listed input is d = rw (is, take_all (length input - 4) (drop 4 input) (simp length-drop (omega arith))) at d
+
+pub put_count-requires : goal.put_count-requires
+put_count-requires c = omega (arith, c.requires, count_short (ascii "refused ") 1 (omega arith))
+
+pub returns-then-input-lt4 : goal.returns-then-input-lt4
+returns-then-input-lt4 c = short_listed c.if-input-lt4.true c.requires c.put_count.ensures
+
+pub returns : goal.returns
+returns c = long_listed c.if-input-lt4.false (base_listed c.args.input.now c.context_of.ensures c.put_report.ensures)

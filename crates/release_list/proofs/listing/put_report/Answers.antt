@@ -1,0 +1,56 @@
+-- The lemmas of `Answered` make the text of the report's answer and parts.
+use Rattle.std.proofs.Common.{ℕ, ◌≡◌, ◌≤◌, List, length, arith, refl, replicate}
+use Rattle.reader.specs.declared.Answer.{Answer}
+use Rattle.reader.specs.Tables.{permission_count}
+use Rattle.release_list.specs.Text.{ascii}
+use Rattle.release_list.specs.Writing.{Written, Parts, lines_text}
+use Rattle.release_list.proofs.Answered.{count_short, Ready, report_ready, refused_listed, done_listed}
+use Rattle.release_list.proofs.listing.put_report.Goals as goal
+
+-- the lines for a number of parts that is that of the permissions
+module _ (b parts : List ℕ) {n : ℕ} (is : n ≡ permission_count b) where
+  lines_asked : {answer : Answer} {room : ℕ} → Ready b parts answer → 768 ≤ room →
+      Parts parts n × (length (lines_text parts n) ≤ room)
+  lines_asked ready l = rw is (ready.parts, omega (arith, ready.lines))
+
+  lines_written : {out now : List ℕ} {next : ℕ} → Written (lines_text parts n) out 0 next now →
+      Written (lines_text parts (permission_count b)) out 0 next now
+  lines_written w = rw is at w
+
+pub put_count-requires : goal.put_count-requires
+put_count-requires c =
+    omega (arith, c.requires, count_short (ascii "refused ") c.report-answer.result.refusal (omega arith))
+
+pub returns-then-answer-ne0 : goal.returns-then-answer-ne0
+returns-then-answer-ne0 c =
+    refused_listed _ _ _ _ _ refl c.report-answer.ensures.promise c.if-answer-ne0.true c.requires c.put_count.ensures
+
+pub permission_count-requires : goal.permission_count-requires
+permission_count-requires c =
+    let r = c.report-answer in
+    (report_ready _ _ _ _ _ refl r.ensures.promise c.if-answer-ne0.false (omega arith)).tables
+
+pub put_lines-next-requires : goal.put_lines-next-requires
+put_lines-next-requires c =
+    let r = c.report-answer in
+    let ready = report_ready _ _ _ _ _ refl r.ensures.promise c.if-answer-ne0.false (omega arith) in
+    lines_asked c.args.base.now r.new.out c.permission_count.ensures ready c.requires
+
+pub overflow_cast-answer : goal.overflow_cast-answer
+overflow_cast-answer c =
+    let r = c.report-answer in
+    let ready = report_ready _ _ _ _ _ refl r.ensures.promise c.if-answer-ne0.false (omega arith) in
+    omega (arith, ready.count)
+
+pub put_count-requires-2 : goal.put_count-requires-2
+put_count-requires-2 c =
+    let r = c.report-answer in
+    let ready = report_ready _ _ _ _ _ refl r.ensures.promise c.if-answer-ne0.false (omega arith) in
+    let w = lines_written c.args.base.now r.new.out c.permission_count.ensures c.put_lines-next.ensures in
+    omega (arith, w.place, ready.lines, ready.last, c.requires)
+
+pub returns : goal.returns
+returns c =
+    let r = c.report-answer in
+    let w = lines_written c.args.base.now r.new.out c.permission_count.ensures c.put_lines-next.ensures in
+    done_listed _ _ _ _ _ refl r.ensures.promise c.if-answer-ne0.false c.requires w c.put_count-2.ensures
