@@ -3,7 +3,7 @@
 
 # Proves and builds the program, then runs it on the small shop at minute 480.
 example:
-	rt check release_list
+	tools/build
 	target/bin/release_list < crates/release_list/stdin
 
 # All tests; the last line is `N passed, 0 failed`.

@@ -5,7 +5,7 @@
  * what the sheet answers when it is asked; last, the entries that the sheet
  * holds.
  *
- *     rt staticlib exports
+ *     tools/build
  *     cc -std=c11 -Iinclude examples/morning.c target/staticlib/libexports.a -o target/morning
  *     target/morning
  */

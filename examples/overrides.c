@@ -3,7 +3,7 @@
  * the small shop. Prints the conflict, and then who can release permission 0 at
  * minute 480 without a resolution list and by some lists.
  *
- *     rt staticlib exports
+ *     tools/build
  *     cc -std=c11 -Iinclude examples/overrides.c target/staticlib/libexports.a -o target/overrides
  *     target/overrides
  */

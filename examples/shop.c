@@ -3,7 +3,7 @@
  * each permission its number, the number of approvers and a smallest group as
  * user/role; last, how many permissions can be released.
  *
- *     rt staticlib exports
+ *     tools/build
  *     cc -std=c11 -Iinclude examples/shop.c target/staticlib/libexports.a -o target/shop
  *     target/shop
  */

@@ -1,7 +1,7 @@
 /*
  * The release decider for shelf labels: its C interface.
  *
- * The functions are in libexports.a, which `rt staticlib exports` proves and
+ * The functions are in libexports.a, which `tools/build` proves and
  * builds (target/staticlib/libexports.a, for x86-64 Linux):
  *
  *     cc -Iinclude program.c target/staticlib/libexports.a

@@ -7,7 +7,7 @@ fn main() {
     let library_dir = format!("{crate_dir}/../../target/staticlib");
     let library = format!("{library_dir}/libexports.a");
     if !Path::new(&library).exists() {
-        println!("cargo:warning=libexports.a isn't built: run `rt staticlib exports` first");
+        println!("cargo:warning=libexports.a isn't built: run `tools/build` first");
     }
     println!("cargo:rustc-link-search=native={library_dir}");
     println!("cargo:rustc-link-lib=static=exports");

@@ -37,7 +37,7 @@
 //! A report, by a list or without, takes about 30,000 bytes of stack, every other
 //! call less than 4,096: a thread with 64 KiB suffices.
 //!
-//! The static library is built by `rt staticlib exports` before this crate.
+//! The static library is built by `tools/build` before this crate.
 
 #![deny(missing_docs)]
 #![deny(unsafe_op_in_unsafe_fn)]
