@@ -1,0 +1,17 @@
+-- The role is in the set of those in which the user may act.
+use Rattle.std.proofs.Common.{◌≡◌, ℕ, Bool, List, sym, ap, ◌∙◌}
+use Rattle.folds.specs.Sets.{in_set, set_below}
+use Rattle.reader.specs.Rules.{refusal_of}
+use Rattle.weights.specs.Acting.{may_act}
+use Rattle.weights.proofs.MayAct.{acting_past, acting_in}
+use Rattle.weights.proofs.acting.may_act.Goals as goal
+
+in_acting : (b : List ℕ) → refusal_of b ≡ 0 → (u r : ℕ) {set : ℕ} {may : Bool} → set ≡ set_below 8 (may_act b u) →
+    may ≡ in_set set r → may ≡ may_act b u r
+in_acting b ok u r set_is is = is ∙ ap (λ (s : ℕ). in_set s r) set_is ∙ acting_in b ok u r
+
+pub returns-then-role-ge8 : goal.returns-then-role-ge8
+returns-then-role-ge8 c = sym (acting_past _ c.requires.0 _ _ c.if-role-ge8.true)
+
+pub returns : goal.returns
+returns c = in_acting _ c.requires.0 _ _ c.acting_roles.ensures c.in_set.ensures

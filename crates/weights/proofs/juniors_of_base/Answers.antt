@@ -1,0 +1,14 @@
+-- The table read is the base's H, which passed the check.
+use Rattle.std.proofs.Common.{arith}
+use Rattle.reader.proofs.Frame.{roles_range}
+use Rattle.reader.proofs.Accepted.{accepted}
+use Rattle.weights.proofs.Chains.{hierarchy_wider}
+use Rattle.weights.proofs.juniors_of_base.Goals as goal
+
+pub part-requires : goal.part-requires
+part-requires c = ((accepted _ c.requires).frame, omega arith)
+
+pub juniors-requires : goal.juniors-requires
+juniors-requires c =
+    let fine = accepted _ c.requires in
+    rw c.part.ensures (hierarchy_wider _ _ (roles_range _ fine.frame).1 fine.hierarchy)

@@ -1,0 +1,138 @@
+-- A turn is argued of plain values.
+use borrow.Author.Tests.{eq-eqb, ne_eqb}
+use Rattle.std.proofs.Common.{◌≡◌, ℕ, ◌+◌, ◌*◌, ◌<◌, ◌≤◌, ◌/◌, Bool, true, false, cond, List, length, get_or, set}
+use Rattle.std.proofs.Common.{refl, sym, ◌∙◌, arith}
+use Rattle.reader.specs.Fields.{policy_role, policy_permission, policy_weight, policy_type, policy_context}
+use Rattle.reader.specs.Rules.{policies_bad}
+use Rattle.reader.proofs.Accepted.{PolicyFine, policy_fine}
+use Rattle.weights.specs.Weights.{any_type, type_one}
+use Rattle.weights.specs.Setting.{in_force_by, taken_up, AreChosen}
+use Rattle.weights.proofs.Choice.{off_context, off_type}
+use Rattle.weights.proofs.Resolving.{Keeps, keeps_none, keeps_same, keeps_more, keeps_placed, kept_below}
+use Rattle.weights.proofs.policies.choose_by.Goals as goal
+use Rattle.weights.proofs.policies.choose_by.Goals.{then-in_force+then-a-at-eq1, then-in_force+else-a-at-eq1}
+use Rattle.weights.proofs.policies.choose_by.Goals.{else-in_force}
+
+-- what is kept of the first i policies, of any type and of type 1
+record Turn (rules : List ℕ) (s : ℕ) (a own_kept inh_kept own inh : List ℕ) (i : ℕ) : Type 0 where
+  any : Keeps rules (in_force_by s) any_type a i own_kept own
+  one : Keeps rules (in_force_by s) type_one a i inh_kept inh
+
+-- one turn, of plain values
+module _ {rules : List ℕ} {s : ℕ} {a own_kept inh_kept own inh : List ℕ} {i : ℕ}
+    (turn : Turn rules s a own_kept inh_kept own inh i) (ok : policies_bad 8 16 a ≡ false) (l : i < length a / 8) where
+  heavy : (j : ℕ) → j < i → 1 ≤ policy_weight a j
+  heavy j m = (policy_fine 8 16 a j ok (omega arith)).weight_pos
+
+  fine : PolicyFine 8 16 a i
+  fine = policy_fine 8 16 a i ok l
+
+  -- policy i is not active
+  skipped : in_force_by s (policy_context a i) ≡ false → Turn rules s a own_kept inh_kept own inh (i + 1)
+  skipped off = record {
+    any = keeps_same rules (in_force_by s) any_type a (off_context (in_force_by s) any_type a i off) turn.any;
+    one = keeps_same rules (in_force_by s) type_one a (off_context (in_force_by s) type_one a i off) turn.one;
+  }
+
+  -- it is active; k is its place
+  module _ {k : ℕ} (on : in_force_by s (policy_context a i) ≡ true)
+      (at_k : k ≡ 8 * policy_permission a i + policy_role a i) (small : k < 128) {own_kept' own' : List ℕ}
+      (own_kept_is : own_kept' ≡ cond (taken_up rules a i own_kept own k) (set own_kept k i) own_kept)
+      (own_is : own' ≡ cond (taken_up rules a i own_kept own k) (set own k (policy_weight a i)) own) where
+    any_more : Keeps rules (in_force_by s) any_type a (i + 1) own_kept' own'
+    any_more =
+        keeps_more rules (in_force_by s) any_type a heavy on refl fine.role at_k small own_kept_is own_is turn.any
+
+    -- of type 0
+    taken : (policy_type a i ≡ 1 → ⊥) → Turn rules s a own_kept' inh_kept own' inh (i + 1)
+    taken other = record {
+      any = any_more;
+      one =
+          keeps_same rules (in_force_by s) type_one a (off_type (in_force_by s) type_one a i (ne_eqb _ _ other))
+          turn.one;
+    }
+
+    -- of type 1
+    taken_both : {inh_kept' inh' : List ℕ} → policy_type a i ≡ 1 →
+        inh_kept' ≡ cond (taken_up rules a i inh_kept inh k) (set inh_kept k i) inh_kept →
+        inh' ≡ cond (taken_up rules a i inh_kept inh k) (set inh k (policy_weight a i)) inh →
+        Turn rules s a own_kept' inh_kept' own' inh' (i + 1)
+    taken_both is inh_kept_is inh_is = record {
+      any = any_more;
+      one =
+          keeps_more rules (in_force_by s) type_one a heavy on (eq-eqb _ _ is) fine.role at_k small inh_kept_is inh_is
+          turn.one;
+    }
+
+-- a policy kept at the place k is in the table
+module _ {rules : List ℕ} {in_force f : ℕ → Bool} {a kept weights : List ℕ} {i k : ℕ}
+    (keeps : Keeps rules in_force f a i kept weights) (ok : policies_bad 8 16 a ≡ false)
+    (l : i < length a / 8) (at_k : k ≡ 8 * policy_permission a i + policy_role a i) where
+  there : (get_or weights k 0 ≡ 0 → ⊥) → 8 * get_or kept k 0 + 8 ≤ length a
+  there some =
+      let fine = policy_fine 8 16 a i ok l in
+      let m = kept_below _ _ f _ keeps _ _ fine.role fine.permission at_k some in
+      omega arith
+
+-- what is kept at the end
+counted : {rules : List ℕ} {s : ℕ} {a own_kept inh_kept own inh : List ℕ} {i : ℕ} →
+    Turn rules s a own_kept inh_kept own inh i → AreChosen rules s a i own inh
+counted turn = record { any = keeps_placed _ _ _ _ turn.any; one = keeps_placed _ _ _ _ turn.one }
+
+pub loop-i-init : goal.loop-i-init
+loop-i-init c =
+    let (_, _, own, inh) = c.requires in
+    record {
+      any = keeps_none _ _ _ _ refl own.size own.zero;
+      one = keeps_none _ _ _ _ refl inh.size inh.zero;
+    }
+
+pub in_force-requires : goal.in_force-requires
+in_force-requires c = (policy_fine 8 16 c.args.a.now c.loop-i.i c.requires.0 c.loop-i-test.true).context
+
+pub place_of-place-requires : goal.place_of-place-requires
+place_of-place-requires c =
+    let fine = policy_fine 8 16 c.args.a.now c.loop-i.i c.requires.0 c.loop-i-test.true in
+    (fine.permission, fine.role)
+
+pub take_up-requires : goal.take_up-requires
+take_up-requires c =
+    let (is, small) = c.place_of-place.ensures in
+    (small, omega arith, omega arith, there c.loop-i.invariant.any c.requires.0 c.loop-i-test.true is)
+
+pub take_up-requires-then-a-at-eq1 : goal.take_up-requires-then-a-at-eq1
+take_up-requires-then-a-at-eq1 c =
+    let (is, small) = c.place_of-place.ensures in
+    (small, omega arith, omega arith, there c.loop-i.invariant.one c.requires.0 c.loop-i-test.true is)
+
+pub loop-i-preserved : goal.loop-i-preserved
+loop-i-preserved c =
+    let h = c.loop-i.invariant in
+    let ok = c.requires.0 in
+    let l = c.loop-i-test.true in
+    let test = sym c.in_force.ensures in
+    let turn : Turn c.args.list.now c.args.contexts c.args.a.now c.loop-i.own_kept c.loop-i.inh_kept c.loop-i.own
+    c.loop-i.inh c.loop-i.i = record { any = h.any; one = h.one } in
+    elim c.if-in_force.branch [
+      | then-in_force+then-a-at-eq1 w ↦
+          let (is, small) = w.place_of-place.ensures in
+          let own = w.take_up.ensures in
+          let inh = w.take_up-then-a-at-eq1.ensures in
+          let next = taken_both turn ok l (test ∙ w.if-in_force.true) is small own.0 own.1 w.if-a-at-eq1.true inh.0
+          inh.1 in
+          rw (w.own_kept-is, w.inh_kept-is, w.own-is, w.inh-is) (record { any = next.any; one = next.one })
+      | then-in_force+else-a-at-eq1 w ↦
+          let (is, small) = w.place_of-place.ensures in
+          let own = w.take_up.ensures in
+          let next = taken turn ok l (test ∙ w.if-in_force.true) is small own.0 own.1 w.if-a-at-eq1.false in
+          rw (w.own_kept-is, w.inh_kept-is, w.own-is, w.inh-is) (record { any = next.any; one = next.one })
+      | else-in_force w ↦
+          let next = skipped turn ok l (test ∙ w.if-in_force.false) in
+          rw (w.own_kept-is, w.inh_kept-is, w.own-is, w.inh-is) (record { any = next.any; one = next.one })
+    ]
+
+pub returns : goal.returns
+returns c =
+    let end : c.loop-i.i ≡ length c.args.a.now / 8 = omega arith in
+    let h = c.loop-i.invariant in
+    rw end at (counted (record { any = h.any; one = h.one }))
