@@ -19,7 +19,8 @@ use Rattle.reader.proofs.Frame.{table_length, record_count_lem}
 use Rattle.reader.proofs.Accepted.{ContextConditionFine, context_fine, accepted}
 use Rattle.weights.specs.declared.Context.{Context}
 use Rattle.weights.specs.Operators.{meets}
-use Rattle.weights.specs.Contexts.{value_of, context_condition_holds, context_clause_holds, clause_of_holds, context_holds}
+use Rattle.weights.specs.Contexts.{value_of, context_condition_holds, context_clause_holds, clause_of_holds}
+use Rattle.weights.specs.Contexts.{context_holds}
 use Rattle.related.specs.Related.{both_hold, related, clause_of, fits_at, fits, both_fit, value_fits}
 use Rattle.related.specs.Related.{some_value_fits, meetable, compatible, joins, meets_some}
 
@@ -131,7 +132,8 @@ module _ (c : List ℕ) where
         rw (eq-eqb q q refl) at (all_at (fits_at c i q (value_of at q)) (context_length c i) (h q (omega arith)) k l))
 
     -- a context number holds where one of its clauses does
-    number_holds : (at : Context) (n : ℕ) → context_holds at c n ≡ any_below (record_count contexts c + 1) (holds_by c at n)
+    number_holds : (at : Context) (n : ℕ) →
+        context_holds at c n ≡ any_below (record_count contexts c + 1) (holds_by c at n)
     unfolding context_holds
     number_holds at n =
         let count = record_count contexts c in

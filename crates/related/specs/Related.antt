@@ -42,7 +42,8 @@ both_fit c i j p v = ltb v (range_of p) && (fits c i p v && fits c j p v)
 -- condition k of clause s is on parameter p, and its value, or one more, meets the conditions of clauses i and j
 abbrev pub value_fits : List ℕ → ℕ → ℕ → ℕ → ℕ → ℕ → Bool
 value_fits c s i j p k =
-    eqb (context_parameter c s k) p && (both_fit c i j p (context_value c s k) || both_fit c i j p (context_value c s k + 1))
+    eqb (context_parameter c s k) p
+    && (both_fit c i j p (context_value c s k) || both_fit c i j p (context_value c s k + 1))
 
 -- some condition's value of clause s, or one more, does
 unfoldable pub some_value_fits : List ℕ → ℕ → ℕ → ℕ → ℕ → Bool

@@ -170,7 +170,8 @@ signings_step before e =
     none true = refl
     none false = refl
 
-    by : (e : Event) → map signing_of (new_in (standing before) e) ≡ cond (is_done (standing before) e) (signing_in e) []
+    by : (e : Event) →
+        map signing_of (new_in (standing before) e) ≡ cond (is_done (standing before) e) (signing_in e) []
     by (signs x) = first x (acceptable (standing before) x)
     by (withdraws u) = none (signed_by (standing before) u)
 

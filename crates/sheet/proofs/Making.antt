@@ -66,7 +66,8 @@ module _ (b : List ℕ) (p : ℕ) where
     -- the signings to which the calls answer 0 are the accepted ones
     pub done_signatures : answered_done (opened b p).sheet es ≡ map signing_of (signatures es)
     unfolding standing
-    done_signatures = ap (λ (s : Sheet). answered_done s es) opened_new ∙ all_done (opened_for b p) es [] nothing_holdable
+    done_signatures =
+        ap (λ (s : Sheet). answered_done s es) opened_new ∙ all_done (opened_for b p) es [] nothing_holdable
 
     -- to the next event the call answers 0 exactly if a signing is accepted, or a withdrawal finds its user's signature
     pub next_done : (e : Event) →
@@ -99,7 +100,8 @@ pub made_open : (b : List ℕ) (p : ℕ) → Made (opened b p).sheet
 unfolding after_all
 made_open b p = record { base = b; permission = p; events = []; is = refl }
 
-after_more : (s : Sheet) (es : List Event) (e : Event) → after_all s (es ++ (e ∷ [])) ≡ (called (after_all s es) e).sheet
+after_more : (s : Sheet) (es : List Event) (e : Event) →
+    after_all s (es ++ (e ∷ [])) ≡ (called (after_all s es) e).sheet
 unfolding after_all
 after_more s [] e = refl
 after_more s (d ∷ es) e = after_more (called s d).sheet es e

@@ -62,7 +62,8 @@ module _ (stays : ℕ → ℕ → Bool) (held : List ℕ) where
       pub one_goes : i < entry_count held → stays_at i ≡ false → StayedYet p left (i + 1)
       one_goes l t =
           let same : join_below (i + 1) kept_at ≡ join_below i kept_at =
-          join_more kept_at i ∙ ap (λ (t : Bool). join_below i kept_at ++ kept t (entry_user held i) (entry_role held i)) t
+          join_more kept_at i
+          ∙ ap (λ (t : Bool). join_below i kept_at ++ kept t (entry_user held i) (entry_role held i)) t
           ∙ append-nil (join_below i kept_at) in
           record { within = omega arith; few = yet.few; are = yet.are ∙ ap (holding p) (sym same) }
 

@@ -1,0 +1,43 @@
+-- `open` meets its contract: the head of the decision's chain, and the sheet that each refusal gives.
+use Rattle.std.proofs.Common.{ℕ, ◌≤◌, ◌<◌, List, ◌≡◌, sym, ◌∙◌}
+use borrow.Author.Tests.{lt-ltb, le-ltb, ne_eqb}
+use Rattle.reader.specs.Tables.{permission_count}
+use Rattle.reader.specs.Rules.{refusal_of}
+use Rattle.reader.proofs.Accepted.{accepted_frame}
+use Rattle.sheet.specs.declared.Sheet.{Sheet}
+use Rattle.sheet.specs.declared.Outcome.{Outcome}
+use Rattle.sheet.specs.Sheets.{unsigned, open_refusal, opened_for, opened}
+use Rattle.sheet.proofs.open.Goals as goal
+
+module _ (b : List ℕ) (p : ℕ) where
+  by_base : {n : ℕ} {s : Sheet} → n ≡ refusal_of b → (n ≡ 0 → ⊥) → s ≡ unsigned 255 →
+      ◌≡◌ {A = Outcome} (record { refusal = n; sheet = s }) (opened b p)
+  unfolding opened_for open_refusal
+  by_base {n} e h k = rw (k, ← e, ne_eqb n 0 h, ne_eqb n 0 h)
+
+  by_permission : {n : ℕ} {s : Sheet} → refusal_of b ≡ 0 → n ≡ permission_count b → n ≤ p → s ≡ unsigned 255 →
+      ◌≡◌ {A = Outcome} (record { refusal = 10; sheet = s }) (opened b p)
+  unfolding opened_for open_refusal
+  by_permission ok e h k = rw (k, ok, ← e, le-ltb _ _ h)
+
+  done : {n : ℕ} {s : Sheet} → refusal_of b ≡ 0 → n ≡ permission_count b → p < n → s ≡ unsigned p →
+      ◌≡◌ {A = Outcome} (record { refusal = 0; sheet = s }) (opened b p)
+  unfolding opened_for open_refusal
+  done ok e h k = rw (k, ok, ← e, lt-ltb _ _ h)
+
+pub returns-then-refused-ne0 : goal.returns-then-refused-ne0
+returns-then-refused-ne0 c =
+    by_base _ _ c.check-refused.ensures c.if-refused-ne0.true c.unsigned_for.ensures
+
+pub permission_count-requires : goal.permission_count-requires
+permission_count-requires c = accepted_frame _ (sym c.check-refused.ensures ∙ c.if-refused-ne0.false)
+
+pub returns-then-permission_count-permission : goal.returns-then-permission_count-permission
+returns-then-permission_count-permission c =
+    by_permission _ _ (sym c.check-refused.ensures ∙ c.if-refused-ne0.false) c.permission_count.ensures
+    c.if-permission_count-permission.true c.unsigned_for-then-permission_count-permission.ensures
+
+pub returns : goal.returns
+returns c =
+    done _ _ (sym c.check-refused.ensures ∙ c.if-refused-ne0.false) c.permission_count.ensures
+    c.if-permission_count-permission.false c.unsigned_for-2.ensures
