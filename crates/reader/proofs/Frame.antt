@@ -8,8 +8,9 @@ use native.Mathlib.Nat.{mul-le-mul, mul-div_cancel, min-eq_left, le_trans}
 use borrow.Author.Tests.{leb-true, ltb-true, ltb-false, eqb-true, not-false, lt-ltb, eq-eqb}
 use lib.Dec.{lit<, leb, ltb}
 use lib.ListN.{length, length-take, length-drop}
+use Rattle.std.proofs.lemmas.Bool.Decides.{nat_tests}
 use Rattle.folds.specs.Below.{all_below, any_below}
-use Rattle.folds.proofs.Bools.{or_left, or_right, none_met}
+use Rattle.folds.proofs.Bools.{or_left, or_right}
 use Rattle.folds.proofs.Tests.{all_at, any_at}
 use Rattle.folds.proofs.Numbers.{sum_step, sum_le_sum}
 use Rattle.reader.specs.Tables.{width, limit, trailer, table_offset, table_count, table_size, table_start, role_count}
@@ -46,12 +47,16 @@ pub record Framed (b : List ℕ) : Type 0 where
   pub reserved : reserved_bad b ≡ false
   pub tables : tables_bad b ≡ false
 
+-- each of the three tests fails
+none_of : (b : List ℕ) → frame_refusal b ≡ 0 →
+    (length_bad b ≡ false) × (letters_bad b ≡ false) × (trailer_bad b ≡ false)
+unfolding frame_refusal
+none_of b h = (grind (arith, nat_tests), grind (arith, nat_tests), grind (arith, nat_tests))
+
 pub framed : (b : List ℕ) → frame_refusal b ≡ 0 → Framed b
-unfolding frame_refusal length_bad trailer_bad
+unfolding length_bad trailer_bad
 framed b h =
-    let (size, past1) = none_met (length_bad b) 0 h in
-    let (marked, past2) = none_met (letters_bad b) 1 past1 in
-    let (rest, _) = none_met (trailer_bad b) 2 past2 in
+    let (size, marked, rest) = none_of b h in
     record {
       long = long_enough b size;
       short = ltb-false _ _ (or_right (ltb (length b) 36) _ size);

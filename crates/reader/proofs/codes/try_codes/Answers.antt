@@ -1,0 +1,111 @@
+-- `try_codes` meets its contract: before role r is tried, as many codes were, the rest is what they left of the
+-- parameter, and it wasn't 1 before. A turn is argued of plain values.
+use Rattle.std.proofs.Common.{ℕ, ◌+◌, ◌/◌, ◌%◌, ◌<◌, ◌≤◌, true, false, List, ◌≡◌, refl, sym, ap, ◌∙◌}
+use Rattle.std.proofs.Common.{length, get_or, eqb, arith}
+use mathlib.Core.Logic.{⊎_elim}
+use borrow.Author.Tests.{eqb-true, eq-eqb, ne_eqb}
+use Rattle.folds.proofs.Bools.{met_or_not, clash}
+use Rattle.folds.proofs.Tests.{any_at}
+use Rattle.folds.proofs.Searches.{none_at_first, none_further}
+use Rattle.reader.specs.Codes.{codes, code_of, code_divides, parameter_ok, codes_tried}
+use Rattle.reader.proofs.Parameter.{rest_of, rest_none, rest_taken, rest_left, rest_one}
+use Rattle.reader.proofs.Trying.{wider, tried_refused, tried_least}
+use Rattle.reader.proofs.codes.try_codes.Invariants.{Turn}
+use Rattle.reader.proofs.codes.try_codes.Goals as goal
+use Rattle.reader.proofs.codes.try_codes.Goals.{then-rest-code-eq0, else-rest-code-eq0}
+
+first : (x roles : ℕ) → Turn x roles x 0 0
+first x roles = record { counted = refl; upto = sym (rest_none x); yet = none_at_first }
+
+-- a turn, of plain values
+module _ {x roles rest tried r : ℕ} (few : roles ≤ 8) (turn : Turn x roles rest tried r) where
+  -- the rest is 1 exactly where the parameter is a product of codes of roles below r
+  test : eqb rest 1 ≡ parameter_ok r x
+  test =
+      let within = turn.yet.within in
+      ap (λ (y : ℕ). eqb y 1) turn.upto ∙ rest_one r x (omega arith)
+
+  -- it is 1 for the first time
+  ended : rest ≡ 1 → (true ≡ parameter_ok roles x) × (tried ≡ codes_tried roles x)
+  ended one =
+      let within = turn.yet.within in
+      let ok : parameter_ok r x ≡ true = sym test ∙ eq-eqb _ _ one in
+      let before : (k : ℕ) → k < r → parameter_ok k x ≡ false = any_at (λ n. parameter_ok n x) r turn.yet.none in
+      (sym (wider r roles x within few ok), turn.counted ∙ sym (tried_least roles x r few within ok before))
+
+  -- all codes were tried, and it never was
+  spent : (rest ≡ 1 → ⊥) → roles ≤ r → (false ≡ parameter_ok roles x) × (tried ≡ codes_tried roles x)
+  spent other last =
+      let within = turn.yet.within in
+      let same : r ≡ roles = omega arith in
+      let bad : parameter_ok roles x ≡ false = rw same at (sym test ∙ ne_eqb _ _ other) in
+      (sym bad, turn.counted ∙ (same ∙ sym (tried_refused roles x few bad)))
+
+  -- past the last turn
+  over : 8 ≤ r → (eqb rest 1 ≡ parameter_ok roles x) × (tried ≡ codes_tried roles x)
+  over last = ⊎_elim one other (met_or_not (eqb rest 1))
+    where
+      one : eqb rest 1 ≡ true → (eqb rest 1 ≡ parameter_ok roles x) × (tried ≡ codes_tried roles x)
+      one e = let (ok, count) = ended (eqb-true _ _ e) in (e ∙ ok, count)
+
+      other : eqb rest 1 ≡ false → (eqb rest 1 ≡ parameter_ok roles x) × (tried ≡ codes_tried roles x)
+      other e =
+          let (ok, count) = spent (λ o. clash _ (eq-eqb _ _ o) e) (omega arith) in
+          (e ∙ ok, count)
+
+  -- one code more is tried
+  module _ (low : r < roles) (other : rest ≡ 1 → ⊥) where
+    further : {now : ℕ} → now ≡ rest_of (r + 1) x → Turn x roles now (tried + 1) (r + 1)
+    further e =
+        record {
+          counted = ap (λ (n : ℕ). n + 1) turn.counted;
+          upto = e;
+          yet = none_further turn.yet low (sym test ∙ ne_eqb _ _ other);
+        }
+
+    divided : {now : ℕ} → code_divides r rest ≡ true → now ≡ rest / code_of r → Turn x roles now (tried + 1) (r + 1)
+    divided h e =
+        let same = turn.upto in
+        further (e ∙ (ap (λ (y : ℕ). y / code_of r) same ∙ sym (rest_taken r x (rw same at h))))
+
+    kept : {now : ℕ} → code_divides r rest ≡ false → now ≡ rest → Turn x roles now (tried + 1) (r + 1)
+    kept h e = let same = turn.upto in further (e ∙ (same ∙ sym (rest_left r x (rw same at h))))
+
+-- the table lent is that of the codes
+module _ {table : List ℕ} (are : table ≡ codes) where
+  size : length table ≡ 8
+  size = ap length are
+
+  code_at : (r : ℕ) → get_or table r 0 ≡ code_of r
+  code_at r = ap (λ (t : List ℕ). get_or t r 0) are
+
+  divides : (r y : ℕ) → y % get_or table r 0 ≡ 0 → code_divides r y ≡ true
+  divides r y h = eq-eqb _ _ (rw (code_at r) at h)
+
+  divides_not : (r y : ℕ) → (y % get_or table r 0 ≡ 0 → ⊥) → code_divides r y ≡ false
+  divides_not r y h = ne_eqb _ _ (rw (code_at r) at h)
+
+pub loop-r-init : goal.loop-r-init
+loop-r-init c = first c.args.x c.args.roles
+
+pub returns-then-rest-eq1 : goal.returns-then-rest-eq1
+returns-then-rest-eq1 c = ended c.requires.1 c.loop-r.invariant c.if-rest-eq1.true
+
+pub returns-then-roles-r : goal.returns-then-roles-r
+returns-then-roles-r c = spent c.requires.1 c.loop-r.invariant c.if-rest-eq1.false c.if-roles-r.true
+
+pub loop-r-preserved : goal.loop-r-preserved
+loop-r-preserved c =
+    let (are, few) = c.requires in
+    let l = c.loop-r in
+    let low = c.if-roles-r.false in
+    let left = c.if-rest-eq1.false in
+    elim c.if-rest-code-eq0.branch [
+      | then-rest-code-eq0 w ↦ divided few l.invariant low left
+          (divides are l.r l.rest w.if-rest-code-eq0.true) (w.rest-is ∙ w.quotient-rest.ensures)
+      | else-rest-code-eq0 w ↦ kept few l.invariant low left
+          (divides_not are l.r l.rest w.if-rest-code-eq0.false) w.rest-is
+    ]
+
+pub returns : goal.returns
+returns c = over c.requires.1 c.loop-r.invariant (omega (arith, size c.requires.0))
