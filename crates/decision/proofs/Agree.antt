@@ -56,7 +56,8 @@ module _ (k l : List ℕ) (e : SameClauses k l) where
       (λ j n. rw (e.attribute i j m n, e.operator i j m n, e.value i j m n)))
 
   -- a permission's condition holds by both tables or by neither
-  pub same_condition : (p number sum set : ℕ) → permission_holds k p number sum set ≡ permission_holds l p number sum set
+  pub same_condition : (p number sum set : ℕ) →
+      permission_holds k p number sum set ≡ permission_holds l p number sum set
   unfolding permission_holds
   same_condition p number sum set =
       rw (

@@ -89,6 +89,23 @@ one_chain false false true s left = refl
 one_chain false false false true left = refl
 one_chain false false false false left = refl
 
+module _ (U R : ℕ) (may : ℕ → ℕ → Bool) (weigh : ℕ → ℕ) (condition : ℕ → ℕ → ℕ → Bool) (g : List ℕ) where
+  abbrev holds : Bool
+  holds = condition (entry_count g) (sum_of weigh g) (roles_of g)
+
+  -- refusals 12 to 17 are the first that applies of one chain
+  pub refusal_chain : group_refusal U R may weigh condition g ≡
+      cond (length_refused g) 12
+      (cond (some_unknown U R g) 13
+      (cond (some_twice g) 14
+      (cond (some_ineligible may g) 15
+      (cond (some_weightless weigh g) 16
+      (cond holds 0 17)))))
+  unfolding group_refusal members_refusal
+  refusal_chain =
+      one_chain (length_refused g) (some_unknown U R g) (some_twice g) (some_ineligible may g)
+      (cond (some_weightless weigh g) 16 (cond holds 0 17))
+
 -- where 12 to 17 give 0, so do 12 to 15, no role is weightless and the condition holds
 none_left : (m : ℕ) (t c : Bool) → cond (not (eqb m 0)) m (cond t 16 (cond c 0 17)) ≡ 0 →
     (m ≡ 0) × (t ≡ false) × (c ≡ true)
@@ -126,26 +143,10 @@ whole_length g whole some few =
     )
 
 module _ (U R : ℕ) (may : ℕ → ℕ → Bool) (weigh : ℕ → ℕ) (condition : ℕ → ℕ → ℕ → Bool) (g : List ℕ) where
-  abbrev holds : Bool
-  holds = condition (entry_count g) (sum_of weigh g) (roles_of g)
-
-  -- refusals 12 to 17 are the first that applies of one chain
-  pub refusal_chain : group_refusal U R may weigh condition g ≡
-      cond (length_refused g) 12
-      (cond (some_unknown U R g) 13
-      (cond (some_twice g) 14
-      (cond (some_ineligible may g) 15
-      (cond (some_weightless weigh g) 16
-      (cond holds 0 17)))))
-  unfolding group_refusal members_refusal
-  refusal_chain =
-      one_chain (length_refused g) (some_unknown U R g) (some_twice g) (some_ineligible may g)
-      (cond (some_weightless weigh g) 16 (cond holds 0 17))
-
   granted_of : group_refusal U R may weigh condition g ≡ 0 → Granted U R may weigh condition g
   unfolding group_refusal length_refused some_twice stands_before some_ineligible some_weightless
   granted_of h =
-      let left = none_left (members_refusal U R may g) (some_weightless weigh g) holds h in
+      let left = none_left (members_refusal U R may g) (some_weightless weigh g) (holds U R may weigh condition g) h in
       let w = members_of_lem U R may g left.0 in
       let s = short_enough g w.whole in
       let n : length g ≡ 0 → ⊥ = eqb-false _ _ (or_left _ _ w.whole) in

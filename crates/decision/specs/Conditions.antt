@@ -3,7 +3,8 @@ use Rattle.std.specs.Prelude.{ℕ, Bool, ◌&&◌, cond, List, eqb}
 use Rattle.folds.specs.Below.{all_below, any_below, count_below}
 use Rattle.folds.specs.Sets.{in_set}
 use Rattle.reader.specs.Tables.{clauses, record_count}
-use Rattle.reader.specs.Fields.{clause_permission, clause_length, condition_attribute, condition_operator, condition_value}
+use Rattle.reader.specs.Fields.{clause_permission, clause_length}
+use Rattle.reader.specs.Fields.{condition_attribute, condition_operator, condition_value}
 use Rattle.weights.specs.Operators.{meets}
 
 -- role_num: the number of different roles in the set; the law `role_num_lem` says that it is that of the roles acted in

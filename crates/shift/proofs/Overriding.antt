@@ -52,7 +52,8 @@ not_lighter x y left h = ltb-false x y (unmet_by (ltb x y) (ltb y x) left h)
 abbrev Outweighed : List ℕ → List ℕ → ℕ → ℕ → Type 0
 Outweighed a d i j = (policy_weight a i ≤ policy_weight a j) × (policy_weight d j ≤ policy_weight d i)
 
-module _ (a d : List ℕ) (i j : ℕ) (rank_i : policy_rank a i ≡ policy_rank d i) (rank_j : policy_rank a j ≡ policy_rank d j)
+module _ (a d : List ℕ) (i j : ℕ) (rank_i : policy_rank a i ≡ policy_rank d i)
+    (rank_j : policy_rank a j ≡ policy_rank d j)
     (day_i : policy_issue_day a i ≡ policy_issue_day d i) (day_j : policy_issue_day a j ≡ policy_issue_day d j) where
   -- a rule other than 2 says the same of both
   alike : (rule : ℕ) → eqb rule 2 ≡ false →

@@ -12,7 +12,8 @@ use lib.Seq.{get_or-set_same, get_or-set_other}
 use Rattle.folds.proofs.Bools.{or_neither, met_or_not}
 use Rattle.folds.proofs.Tests.{any_same}
 use Rattle.reader.specs.Bytes.{word16}
-use Rattle.reader.specs.Tables.{policies, width, role_count, table_of, table_size, record_count, policy_count, frame_refusal}
+use Rattle.reader.specs.Tables.{policies, width, role_count, table_of, table_size, record_count, policy_count}
+use Rattle.reader.specs.Tables.{frame_refusal}
 use Rattle.reader.specs.Fields.{weight_place, policy_weight}
 use Rattle.reader.specs.Rules.{outside, policy_bad, policies_bad, records_refusal, refusal_of}
 use Rattle.reader.proofs.Frame.{table_length}

@@ -106,7 +106,8 @@ module _ (b : List ℕ) (ok : refusal_of b ≡ 0) (i : ℕ) (there : i < policy_
   module _ (rules : List ℕ) (at : Context) (p : ℕ) where
     -- the weight of the policy that counts for role r, among those whose type passes the filter f
     abbrev counted : List ℕ → (ℕ → Bool) → ℕ → ℕ
-    counted x f r = chosen_weight rules (context_holds at (table_of x contexts)) f (table_of x policies) (policy_count x) r p
+    counted x f r =
+        chosen_weight rules (context_holds at (table_of x contexts)) f (table_of x policies) (policy_count x) r p
 
     counted_shift : (f : ℕ → Bool) (r : ℕ) → distance (counted b f r) (counted c f r) ≤ d
     counted_shift f r =
@@ -146,7 +147,8 @@ module _ (b : List ℕ) (ok : refusal_of b ≡ 0) (i : ℕ) (there : i < policy_
         by true = inh_shift q
         by false = omega arith
 
-    share_none : (r : ℕ) → senior_to (table_of b hierarchy) r q ≡ false → share rules b at p r q ≡ share rules c at p r q
+    share_none : (r : ℕ) → senior_to (table_of b hierarchy) r q ≡ false →
+        share rules b at p r q ≡ share rules c at p r q
     share_none r e = rw (same_hierarchy, e)
 
     -- the shares of the roles other than the policy's
@@ -238,7 +240,8 @@ module _ (b c : List ℕ) (i : ℕ) (one : OneWeight b c i) where
   sum_shifts rules at p g =
       sum_shift (λ k. weight rules b at (entry_role g k) p) (λ k. weight rules c at (entry_role g k) p)
       (λ k. role_or_senior b i (entry_role g k)) difference
-      (λ k e. role_shifts rules at p (entry_role g k) e) (λ k e. role_stays rules at p (entry_role g k) e) (entry_count g)
+      (λ k e. role_shifts rules at p (entry_role g k) e) (λ k e. role_stays rules at p (entry_role g k) e)
+      (entry_count g)
 
   -- the number of entries is the same by either base
   pub touched_same : (g : List ℕ) → touched b i g ≡ touched c i g

@@ -1,0 +1,126 @@
+-- `bound` meets its contract: the chain of refusals, then the bound by the table A and the juniors.
+use Rattle.std.proofs.Common.{ℕ, Bool, true, false, List, length, ◌≡◌, ◌<◌, ◌≤◌, ◌*◌, arith}
+use mathlib.Core.Bool.{cond}
+use mathlib.Core.Path.{sym, ◌∙◌}
+use native.Mathlib.Nat.{lt_of_lt_of_le, suc-ne-zero}
+use borrow.Author.Tests.{ltb-false}
+use lib.Dec.{ltb}
+use Rattle.folds.proofs.Bools.{refused, unrefused, or_right}
+use Rattle.reader.specs.Tables.{hierarchy, policies, role_count, user_count, table_of, record_count, policy_count}
+use Rattle.reader.specs.Fields.{policy_role, policy_weight}
+use Rattle.reader.specs.Rules.{refusal_of}
+use Rattle.reader.proofs.Frame.{roles_range}
+use Rattle.reader.proofs.Accepted.{accepted, accepted_frame, policy_fine}
+use Rattle.reader.proofs.Answered.{answered_refused, answered_done_lem}
+use Rattle.weights.specs.Acting.{may_act}
+use Rattle.weights.specs.Setting.{Juniors}
+use Rattle.decision.specs.Groups.{entry_count, entry_role}
+use Rattle.decision.specs.Decision.{members_of}
+use Rattle.decision.proofs.Granting.{Members, members_of_lem, short_enough, role_below}
+use Rattle.shift.specs.Counting.{entries_at_or_above}
+use Rattle.shift.specs.Shift.{distance, bound_of, change_refused, bound_refusal}
+use Rattle.shift.proofs.Laws.{touched_by, change_allowed}
+use Rattle.shift.proofs.bound.Goals as goal
+
+-- what is learnt of the group where neither 1 to 9 nor 12 to 15 apply
+record Known (b g : List ℕ) : Type 0 where
+  ok : refusal_of b ≡ 0
+  none : members_of b g ≡ 0
+  few : length g ≤ 12
+  low : (k : ℕ) → k < entry_count g → entry_role g k < 8
+
+known : {b g : List ℕ} {n m : ℕ} → n ≡ refusal_of b → n ≡ 0 → m ≡ members_of b g → m ≡ 0 → Known b g
+known {b} {g} checked fine is zero =
+    let ok : refusal_of b ≡ 0 = sym checked ∙ fine in
+    let none : members_of b g ≡ 0 = sym is ∙ zero in
+    let m : Members (user_count b) (role_count b) (may_act b) g = members_of_lem _ _ _ g none in
+    record {
+      ok = ok;
+      none = none;
+      few = short_enough g m.whole;
+      low = role_below _ _ g m.known (roles_range b (accepted_frame _ ok)).1;
+    }
+
+-- the refusals, in the order of the chain
+module _ (b : List ℕ) (i w : ℕ) (g : List ℕ) where
+  by_check : {n : ℕ} → n ≡ refusal_of b → (n ≡ 0 → ⊥) → n ≡ bound_refusal b i w g
+  unfolding bound_refusal
+  by_check is some = is ∙ refused _ (λ h. some (is ∙ h))
+
+  by_members : {n : ℕ} → refusal_of b ≡ 0 → n ≡ members_of b g → (n ≡ 0 → ⊥) → n ≡ bound_refusal b i w g
+  unfolding bound_refusal
+  by_members ok is some = is ∙ refused _ (λ h. some (is ∙ h)) ∙ sym (unrefused ok)
+
+  module _ (k : Known b g) where
+    rest : bound_refusal b i w g ≡ cond (change_refused (policy_count b) i w) 21 0
+    unfolding bound_refusal
+    rest = unrefused k.ok ∙ unrefused k.none
+
+    by_21 : change_refused (policy_count b) i w ≡ true → 21 ≡ bound_refusal b i w g
+    by_21 e = sym (rest ∙ rw e)
+
+    by_none : change_refused (policy_count b) i w ≡ false → bound_refusal b i w g ≡ 0
+    by_none e = rest ∙ rw e
+
+-- 21 by the bytes of the table
+by_table : {a d : List ℕ} {t : Bool} (i w : ℕ) → a ≡ d → t ≡ change_refused (record_count policies a) i w →
+    change_refused (record_count policies d) i w ≡ t
+by_table i w e h = rw (← e) (sym h)
+
+-- a weight that 21 doesn't refuse is a byte
+small : (n i w : ℕ) → change_refused n i w ≡ false → w ≤ 5
+small n i w e = ltb-false _ _ (or_right (ltb w 1) _ (change_allowed n i w e).1)
+
+-- the policy is in the table that the call is lent, and its role is below 8
+in_table : (b a : List ℕ) (i : ℕ) → refusal_of b ≡ 0 → a ≡ table_of b policies → i < policy_count b →
+    (i < record_count policies a) × (policy_role a i < 8)
+in_table b a i ok e there =
+    let fine = policy_fine _ _ (table_of b policies) i (accepted b ok).policies there in
+    let small = (roles_range b (accepted_frame b ok)).1 in
+    (rw e there, rw e (lt_of_lt_of_le fine.role small))
+
+bound_by : (b juniors a : List ℕ) (i w : ℕ) (g : List ℕ) {k : ℕ} → a ≡ table_of b policies →
+    Juniors (table_of b hierarchy) juniors → ((n : ℕ) → n < entry_count g → entry_role g n < 8) →
+    k ≡ distance (policy_weight a i) w * entries_at_or_above juniors (policy_role a i) g → k ≡ bound_of b i w g
+unfolding bound_of
+bound_by b juniors a i w g e are low h = rw (e, touched_by b juniors are i g low) at h
+
+pub returns-then-refused-ne0 : goal.returns-then-refused-ne0
+returns-then-refused-ne0 c =
+    answered_refused _ _ (by_check _ _ _ _ c.check-refused.ensures c.if-refused-ne0.true) c.if-refused-ne0.true
+
+pub returns-then-members-ne0 : goal.returns-then-members-ne0
+returns-then-members-ne0 c =
+    let ok = sym c.check-refused.ensures ∙ c.if-refused-ne0.false in
+    answered_refused _ _ (by_members _ _ _ _ ok c.members_refusal-members.ensures c.if-members-ne0.true)
+    c.if-members-ne0.true
+
+pub part-a-requires : goal.part-a-requires
+part-a-requires c = (accepted_frame _ (sym c.check-refused.ensures ∙ c.if-refused-ne0.false), omega arith)
+
+pub returns-then-change_refused : goal.returns-then-change_refused
+returns-then-change_refused c =
+    let k = known c.check-refused.ensures c.if-refused-ne0.false c.members_refusal-members.ensures
+    c.if-members-ne0.false in
+    let bad = by_table c.args.policy c.args.weight c.part-a.ensures c.if-change_refused.ensures in
+    answered_refused _ _ (by_21 _ _ _ _ k bad) (suc-ne-zero 20)
+
+pub overflow_cast-weight : goal.overflow_cast-weight
+overflow_cast-weight c = let most = small _ c.args.policy c.args.weight (sym c.if-change_refused.ensures) in omega arith
+
+pub bound_of-count-requires : goal.bound_of-count-requires
+bound_of-count-requires c =
+    let k = known c.check-refused.ensures c.if-refused-ne0.false c.members_refusal-members.ensures
+    c.if-members-ne0.false in
+    let good = by_table c.args.policy c.args.weight c.part-a.ensures c.if-change_refused.ensures in
+    let (there, low) = in_table _ _ _ k.ok c.part-a.ensures (change_allowed _ _ c.args.weight good).0 in
+    (there, low, k.few, k.low)
+
+pub returns : goal.returns
+returns c =
+    let k = known c.check-refused.ensures c.if-refused-ne0.false c.members_refusal-members.ensures
+    c.if-members-ne0.false in
+    let good = by_table c.args.policy c.args.weight c.part-a.ensures c.if-change_refused.ensures in
+    answered_done_lem _ _ (by_none _ _ _ _ k good)
+    (bound_by _ _ _ c.args.policy c.args.weight c.args.group.now c.part-a.ensures c.juniors_of_base-juniors.ensures
+    k.low c.bound_of-count.ensures)
