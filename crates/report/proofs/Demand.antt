@@ -1,5 +1,5 @@
 -- Demand 3 follows from a report's promise, of any decision that grants groups as the decider does.
-use Prim.Native.Nat.{ℕ, zero, ◌*◌, ◌<◌, ◌≤◌}
+use Prim.Native.Nat.{ℕ, ◌*◌, ◌<◌, ◌≤◌}
 use mathlib.Core.Bool.{true}
 use mathlib.Core.Path.{◌≡◌, refl, sym, ap, ◌∙◌}
 use mathlib.Core.Logic.{◌↔◌, ⊎_elim}

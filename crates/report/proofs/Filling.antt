@@ -94,7 +94,8 @@ module _ (decision : Deciding) where
   -- the count with one permission more
   pub count_part : (p : ℕ) (part : List ℕ) (count more : ℕ) → PartFor decision p part →
       count ≡ count_below p (λ q. ltb 0 (smallest_by decision q)) →
-      more ≡ cond (ltb 0 (get_or part 0 0)) 1 0 → count + more ≡ count_below (p + 1) (λ q. ltb 0 (smallest_by decision q))
+      more ≡ cond (ltb 0 (get_or part 0 0)) 1 0 →
+      count + more ≡ count_below (p + 1) (λ q. ltb 0 (smallest_by decision q))
   count_part p part count more this e f =
       let k : get_or part 0 0 ≡ smallest_by decision p = ap (λ (l : List ℕ). get_or l 0 0) this.bytes in
       rw (e, f, k) (sym (count_more (λ q. ltb 0 (smallest_by decision q)) p))

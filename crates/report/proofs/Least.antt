@@ -91,7 +91,8 @@ first_below_lem granted = by (ltb (first_below 6 (found granted)) 6) refl
 -- the smallest number is at most 6
 pub smallest_six : (granted : List ℕ → Bool) → smallest granted ≤ 6
 smallest_six granted =
-    ⊎_elim (λ z. omega arith) (λ l. let h = first_below_lem granted l in let e = smallest_first granted h in omega arith)
+    ⊎_elim (λ z. omega arith)
+    (λ l. let h = first_below_lem granted l in let e = smallest_first granted h in omega arith)
     (eq-zero-or-pos (smallest granted))
 
 -- some granted list has the smallest number of entries, where it is above 0

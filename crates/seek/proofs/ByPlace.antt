@@ -86,7 +86,8 @@ module _ {sets w : List ℕ} {placed d e n : ℕ} {ends from roles sums : List �
 
   module _ (condition : ℕ → ℕ → Bool) where
     -- where entries meet the condition, the place of their roles does
-    pub place_meets : (g : List Entry) → length g ≡ n → ((r : ℕ) → r < 8 → 0 < get_or w r 0 → r < e) → Rises sets w 0 g →
+    pub place_meets : (g : List Entry) → length g ≡ n → ((r : ℕ) → r < 8 → 0 < get_or w r 0 → r < e) →
+        Rises sets w 0 g →
         condition (placed + entries_sum w g) (entries_roles g) ≡ true →
         (x : ℕ) × (first d n ≤ x) × (x < first d n + starts n e) × (met_at ends sums roles condition x ≡ true)
     place_meets g many heavy rises met = (first d n + rank_of z, omega arith, omega (arith, low), both)

@@ -23,8 +23,8 @@ module _ (by_sum by_set : List ℕ) where
   set_empty row sum set e = rw (e, and_zero_r (bit_and row (get_or by_sum sum 0))) refl
 
   -- so roles of a set that meets the row have weight
-  met_heavy : (w : List ℕ) (end : ℕ) → Asked w by_set end → (row sum set : ℕ) → met_by row by_sum by_set sum set ≡ true →
-      set < 2 ^ end → (r : ℕ) → r < 8 → in_set set r ≡ true → 0 < get_or w r 0
+  met_heavy : (w : List ℕ) (end : ℕ) → Asked w by_set end → (row sum set : ℕ) →
+      met_by row by_sum by_set sum set ≡ true → set < 2 ^ end → (r : ℕ) → r < 8 → in_set set r ≡ true → 0 < get_or w r 0
   met_heavy w end asked row sum set met low r role there = ⊎_elim
       (λ z. clash (met_by row by_sum by_set sum set) met (set_empty row sum set (asked.light set r low role there z)))
       (λ h. h)

@@ -1,5 +1,6 @@
 -- A search of the levels by masks of clauses.
-use Rattle.std.specs.Prelude.{ℕ, ◌+◌, ◌-◌, ◌*◌, ◌^◌, ◌<◌, ◌≤◌, Bool, true, false, ◌&&◌, not, ◌≡◌, List, ◌++◌, eqb, ltb, length, get_or, replicate}
+use Rattle.std.specs.Prelude.{ℕ, ◌+◌, ◌-◌, ◌*◌, ◌^◌, ◌<◌, ◌≤◌, Bool, true, false, ◌&&◌, not, ◌≡◌, List, ◌++◌}
+use Rattle.std.specs.Prelude.{eqb, ltb, length, get_or, replicate}
 use Rattle.std.specs.Int.Bits.{bit_and}
 use Rattle.folds.specs.Sets.{in_set}
 use Rattle.multisets.specs.Ranks.{first}
