@@ -9,7 +9,8 @@ use lib.Dec.{eqb}
 use Rattle.folds.proofs.Bools.{never_met, clash}
 use Rattle.reader.specs.Bytes.{word16, word32}
 use Rattle.reader.specs.Tables.{clauses, table_of, table_offset, table_count, table_start, role_count, user_count}
-use Rattle.reader.specs.Tables.{length_bad, letters_bad, roles_bad, reserved_bad, tables_bad, trailer_bad, frame_refusal}
+use Rattle.reader.specs.Tables.{length_bad, letters_bad, roles_bad, reserved_bad}
+use Rattle.reader.specs.Tables.{tables_bad, trailer_bad, frame_refusal}
 use Rattle.reader.specs.Codes.{code_product, parameter_ok, held_by, holds}
 use Rattle.reader.specs.Rules.{hierarchy_bad, users_bad, clause_slot_bad, clause_bad, clauses_bad, contexts_bad}
 use Rattle.reader.specs.Rules.{policy_bad, policies_bad, exclusions_bad, records_refusal, refusal_of}
@@ -41,7 +42,8 @@ computed : Computed
 unfolding head_buyer
     word16 word32 table_of table_offset table_count table_start role_count frame_refusal
     length_bad letters_bad trailer_bad roles_bad reserved_bad tables_bad
-    hierarchy_bad users_bad parameter_ok code_product clauses_bad clause_bad clause_slot_bad contexts_bad policies_bad policy_bad
+    hierarchy_bad users_bad parameter_ok code_product clauses_bad clause_bad clause_slot_bad contexts_bad policies_bad
+    policy_bad
     exclusions_bad records_refusal refusal_of held_by may_act context_holds weight
     length_refused some_unknown some_twice stands_before some_ineligible members_refusal some_weightless
     sum_of permission_holds group_decision decision_by

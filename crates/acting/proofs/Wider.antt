@@ -55,7 +55,8 @@ module _ (b : List ℕ) (at : Context) (p : ℕ) where
       rw (same_refusal _ _ _ _ _ _ _ _ _ _ refl refl (acting_flat b flat) (λ r. refl) (λ n s t. refl) g)
 
   -- and every number is as it was
-  pub flat_smallest : record_count hierarchy (table_of b hierarchy) ≡ 0 → smallest_of b at p ≡ smallest_by_holding b at p
+  pub flat_smallest : record_count hierarchy (table_of b hierarchy) ≡ 0 →
+      smallest_of b at p ≡ smallest_by_holding b at p
   unfolding smallest_by smallest_by_holding
   flat_smallest flat =
       sym (smallest_is _ (of_decision [] b at p) _

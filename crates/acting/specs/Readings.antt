@@ -16,7 +16,8 @@ use Rattle.report.specs.Smallest.{smallest, smallest_of}
 abbrev pub decision_where : (ℕ → ℕ → Bool) → List ℕ → Context → ℕ → List ℕ → ℕ
 decision_where may b at p g =
     headed b at p
-    (group_refusal (user_count b) (role_count b) may (λ r. weight [] b at r p) (permission_holds (table_of b clauses) p) g)
+    (group_refusal (user_count b) (role_count b) may (λ r. weight [] b at r p)
+    (permission_holds (table_of b clauses) p) g)
 
 -- the decision by holding alone
 abbrev pub decision_by_holding : List ℕ → Context → ℕ → List ℕ → ℕ

@@ -56,7 +56,8 @@ module _ (c a rows : List ℕ) (names : ℕ) (rel : Relations c names rows)
 
   -- the rows of related slots tell whether the contexts of two policies are related
   related_rows : (i j : ℕ) → i < record_count policies a → j < record_count policies a →
-      ((policy_context a i ≤ 15) ⊎ (policy_context a i ≡ 255)) → ((policy_context a j ≤ 15) ⊎ (policy_context a j ≡ 255)) →
+      ((policy_context a i ≤ 15) ⊎ (policy_context a i ≡ 255)) →
+      ((policy_context a j ≤ 15) ⊎ (policy_context a j ≡ 255)) →
       related_by rows (policy_context a i) (policy_context a j) ≡ related c (policy_context a i) (policy_context a j)
   related_rows i j li lj fi fj =
       let x = policy_context a i in

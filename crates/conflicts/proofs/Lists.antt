@@ -92,7 +92,8 @@ module _ (kind first t : ℕ) (p q : ℕ → Bool) (at : p t ≡ true) (least : 
 
 -- the records of a row: that of its lowest bit, and those of the rest
 pub row_next : (kind first row : ℕ) → 0 < row → row < 2 ^ 64
-    → row_records kind first row ≡ kind ∷ first ∷ count_trailing_zeros 64 row ∷ row_records kind first (bit_and row (row - 1))
+    → row_records kind first row
+    ≡ kind ∷ first ∷ count_trailing_zeros 64 row ∷ row_records kind first (bit_and row (row - 1))
 unfolding row_records
 row_next kind first row h l =
     let t = count_trailing_zeros 64 row in
@@ -119,13 +120,15 @@ rows_more kind rows i = join_more (row_at kind rows) i
 
 -- the records before a row, and its own, are no longer than those of all n rows
 pub rows_room : (kind : ℕ) (rows : List ℕ) (n i : ℕ) → i < n
-    → length (rows_records kind rows i) + length (row_records kind i (get_or rows i 0)) ≤ length (rows_records kind rows n)
+    → length (rows_records kind rows i) + length (row_records kind i (get_or rows i 0))
+    ≤ length (rows_records kind rows n)
 unfolding rows_records
 rows_room kind rows n i h =
     omega (arith, simp (rows_more kind rows i, length-append) at (join_le (row_at kind rows) (i + 1) n (omega arith)))
 
 -- 3 bytes for each number of which p holds
-row_length : (kind first : ℕ) (p : ℕ → Bool) (m : ℕ) → length (join_below m (record_if kind first p)) ≡ 3 * count_below m p
+row_length : (kind first : ℕ) (p : ℕ → Bool) (m : ℕ) → length (join_below m (record_if kind first p))
+    ≡ 3 * count_below m p
 unfolding join_below
 row_length kind first p zero = rw count_none
 row_length kind first p (suc m) =

@@ -54,7 +54,8 @@ module _ (f g : ℕ → List ℕ) where
   join_same (suc n) h = rw (join_same n (λ i l. h i (omega arith)), h n (omega arith))
 
 -- a store after i others, each of which has its property
-pub stored : (w : List ℕ) (i v : ℕ) (Q : ℕ → ℕ → Type 0) → i < length w → ((k : ℕ) → k < i → Q k (get_or w k 0)) → Q i v →
+pub stored : (w : List ℕ) (i v : ℕ) (Q : ℕ → ℕ → Type 0) → i < length w →
+    ((k : ℕ) → k < i → Q k (get_or w k 0)) → Q i v →
     (k : ℕ) → k < i + 1 → Q k (get_or (set w i v) k 0)
 stored w i v Q l inv e k m =
     ⊎_elim (λ t. let s : k ≡ i = eqb-true _ _ t in rw (s, get_or-set_same w i v 0 l) e)

@@ -33,7 +33,8 @@ module _ (f : ℕ → ℕ) where
   pub sum_split : (m n : ℕ) → sum_below (m + n) f ≡ sum_below m f + sum_below n (λ i. f (m + i))
   unfolding sum_below
   sum_split m zero = rw (add-zero m, add-zero (sum_below m f))
-  sum_split m (suc n) = rw (add-suc, sum_split m n) (add_assoc (sum_below m f) (sum_below n (λ i. f (m + i))) (f (m + n)))
+  sum_split m (suc n) =
+      rw (add-suc, sum_split m n) (add_assoc (sum_below m f) (sum_below n (λ i. f (m + i))) (f (m + n)))
 
   -- a sum over fewer numbers is not larger
   pub sum_le_sum : (m n : ℕ) → m ≤ n → sum_below m f ≤ sum_below n f

@@ -73,7 +73,8 @@ contains_eight s v h = same_test (contains s v) (all_below 8 (λ r. in_set s r |
 module _ (k : List ℕ) (i j number sum set : ℕ) where
   -- a condition that isn't on the set asks for no role
   none_asked : (condition_attribute k i j ≡ 3 → ⊥) → all_below 8 (λ r. in_set set r || met_at k i j 3 r) ≡ true
-  none_asked d = all_each (λ r. in_set set r || met_at k i j 3 r) 8 (λ r l. rw (off k i j 3 d r) (or-true (in_set set r)))
+  none_asked d = all_each (λ r. in_set set r || met_at k i j 3 r) 8
+      (λ r l. rw (off k i j 3 d r) (or-true (in_set set r)))
 
   -- a condition holds where it is met by the number of entries, the sum, the number of roles, and each role
   abbrev Apart : Type 0

@@ -55,7 +55,8 @@ module _ (k : List ℕ) (i j : ℕ) where
 
   module _ {others : ℕ} where
     -- so the masks of another attribute stay
-    kept : {m : ℕ} {was : List ℕ} (a : ℕ) → (condition_attribute k i j ≡ a → ⊥) → Struck m (met_at k i j a) others was was
+    kept : {m : ℕ} {was : List ℕ} (a : ℕ) → (condition_attribute k i j ≡ a → ⊥) →
+        Struck m (met_at k i j a) others was was
     kept a d = struck_none (λ x l. off a d x)
 
     -- and those of this one are struck out

@@ -59,7 +59,8 @@ row_some {entries} {number} {reached} {all = all} d j = record {
   where
     within : (b : ℕ) → in_set (bit_and (bit_and (get_or entries number 0) reached) all) b
         ≡ ((in_set (get_or entries number 0) b && in_set reached b) && in_set all b)
-    within b = in_and (bit_and (get_or entries number 0) reached) all b ∙ rw (in_and (get_or entries number 0) reached b)
+    within b = in_and (bit_and (get_or entries number 0) reached) all b
+        ∙ rw (in_and (get_or entries number 0) reached b)
 
 -- the first m rows are made
 pub record RowsTo (entries : List ℕ) (count sum light heavy reached m : ℕ) (sums rows : List ℕ) : Type 0 where

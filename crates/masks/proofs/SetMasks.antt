@@ -48,7 +48,8 @@ module _ (own : ℕ) (roles : List ℕ) (start end : ℕ) where
   unfolding spared_from spared all_below
   reach_next {r} {reached} h w e = record {
     members = λ b. in_and reached _ b ∙ rw (w.members b, e, add-one, le-ltb r end h)
-        (chosen (in_set start r) (all_below r (spared_from roles start end b)) (in_set own b) own (get_or roles r 0) b refl);
+        (chosen (in_set start r) (all_below r (spared_from roles start end b)) (in_set own b) own
+        (get_or roles r 0) b refl);
   }
 
 -- the first v of the masks are doubled
@@ -160,7 +161,8 @@ module _ (own : ℕ) (roles w : List ℕ) (start end : ℕ) where
       (i : with ≡ cond (ltb 0 (get_or w n 0)) own 0) where
     abbrev Right : ℕ → ℕ → Type 0
     Right v b = in_set (get_or sets v 0) b
-        ≡ ((in_set own b && all_below 8 (spared_from roles start end b)) && all_below (n + 1) (role_fits roles w start v b))
+        ≡ ((in_set own b && all_below 8 (spared_from roles start end b))
+        && all_below (n + 1) (role_fits roles w start v b))
 
     lacking : (v b : ℕ) → v < 2 ^ n → Right v b
     unfolding all_below role_fits spared
@@ -186,7 +188,8 @@ module _ (own : ℕ) (roles w : List ℕ) (start end : ℕ) where
         all_same (role_fits roles w start u b) (role_fits roles w start (2 ^ n + u) b) n
         (λ r k. rw (with_next n u r l, ne_eqb n r (λ e. omega arith), or-false)) in
         rw (d.upper u l, in_and (get_or was u 0) with b, m.members u b l, i, add-one, last, same)
-        (weighed (ltb 0 (get_or w n 0)) (all_below n (role_fits roles w start (2 ^ n + u) b)) own b (in_set own b) _ refl)
+        (weighed (ltb 0 (get_or w n 0)) (all_below n (role_fits roles w start (2 ^ n + u) b)) own b
+        (in_set own b) _ refl)
 
     pub marked_next : MarkedTo own roles w start end (n + 1) sets
     marked_next = record {

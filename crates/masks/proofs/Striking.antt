@@ -149,7 +149,8 @@ module _ (v n : ℕ) where
           (met_or_not (eqb r n))
 
   -- or hasn't
-  pub struck_other : {others : ℕ} {was masks : List ℕ} → Struck 8 (lacks_below v n) others was masks → in_set v n ≡ false
+  pub struck_other : {others : ℕ} {was masks : List ℕ} → Struck 8 (lacks_below v n) others was masks →
+      in_set v n ≡ false
       → Struck 8 (lacks_below v (n + 1)) others was masks
   unfolding lacks_below
   struck_other s h = struck_as s (λ r m. by r)

@@ -44,7 +44,8 @@ some_in n a below = ⊎_elim
     none : any_below n (in_set a) ≡ false → (r : ℕ) → in_set a r ≡ false
     none h r = ⊎_elim (λ i. any_at (in_set a) n h r (below r i)) (λ i. i) (met_or_not (in_set a r))
 
-    by : (any_below n (in_set a) ≡ true) ⊎ (any_below n (in_set a) ≡ false) → (a ≡ 0 → ⊥) → true ≡ any_below n (in_set a)
+    by : (any_below n (in_set a) ≡ true) ⊎ (any_below n (in_set a) ≡ false) → (a ≡ 0 → ⊥) →
+        true ≡ any_below n (in_set a)
     by t d = ⊎_elim (λ i. sym i) (λ i. absurd (d (empty_set a (none i)))) t
 
 -- the masks of an attribute once all clauses are done
@@ -121,7 +122,8 @@ module _ {k : List ℕ} {own count : ℕ} {entries sums numbers roles : List ℕ
     by_set : (b : ℕ) → in_set (get_or sets v 0) b ≡ (in_set own b && asked b)
     by_set b = in_sets v b below h
 
-    holds : (b : ℕ) → in_set own b ≡ true → clause_holds k number s set b ≡ ((met k b 0 number && met k b 1 s) && asked b)
+    holds : (b : ℕ) → in_set own b ≡ true → clause_holds k number s set b
+        ≡ ((met k b 0 number && met k b 1 s) && asked b)
     holds b o = clause_apart k b number s set t (in_set_below (record_count clauses k) own b small o)
 
     abbrev together : ℕ → Bool
@@ -132,7 +134,8 @@ module _ {k : List ℕ} {own count : ℕ} {entries sums numbers roles : List ℕ
         let both = and_left (in_set row b && in_set (get_or sums s 0) b) (in_set (get_or sets v 0) b) e in
         let n = sym (by_number b) ∙ r.low b (and_left (in_set row b) (in_set (get_or sums s 0) b) both) in
         let m = sym (by_sum b) ∙ and_right (in_set row b) (in_set (get_or sums s 0) b) both in
-        let q = sym (by_set b) ∙ and_right (in_set row b && in_set (get_or sums s 0) b) (in_set (get_or sets v 0) b) e in
+        let q = sym (by_set b) ∙ and_right (in_set row b && in_set (get_or sums s 0) b)
+        (in_set (get_or sets v 0) b) e in
         let o = and_left (in_set own b) (met k b 0 number) n in
         and_both o (holds b o ∙ and_both
         (and_both (and_right (in_set own b) (met k b 0 number) n) (and_right (in_set own b) (met k b 1 s) m))
@@ -154,7 +157,8 @@ module _ {k : List ℕ} {own count : ℕ} {entries sums numbers roles : List ℕ
     tells p e =
         let c : ℕ = record_count clauses k in
         let x : ℕ = bit_and (bit_and row (get_or sums s 0)) (get_or sets v 0) in
-        let members : (b : ℕ) → in_set x b ≡ together b = λ b. in_and (bit_and row (get_or sums s 0)) (get_or sets v 0) b
+        let members : (b : ℕ) → in_set x b ≡ together b = λ b. in_and (bit_and row (get_or sums s 0))
+        (get_or sets v 0) b
         ∙ ap (λ (c : Bool). c && in_set (get_or sets v 0) b) (in_and row (get_or sums s 0) b) in
         let same : (b : ℕ) → together b ≡ (in_set own b && clause_holds k number s set b) = λ b.
         same_test (together b) (in_set own b && clause_holds k number s set b) (into b) (back b) in

@@ -3,7 +3,8 @@ use Rattle.std.specs.Prelude.{ℕ, ◌≤◌, ◌<◌, Bool, false, ◌&&◌, �
 use Rattle.folds.specs.Below.{all_below}
 use Rattle.folds.specs.Sets.{in_set, set_below}
 use Rattle.reader.specs.Tables.{clauses, record_count}
-use Rattle.reader.specs.Fields.{clause_permission, clause_length, condition_attribute, condition_operator, condition_value}
+use Rattle.reader.specs.Fields.{clause_permission, clause_length, condition_attribute}
+use Rattle.reader.specs.Fields.{condition_operator, condition_value}
 use Rattle.reader.specs.Rules.{clauses_bad}
 use Rattle.weights.specs.Operators.{meets}
 

@@ -44,10 +44,12 @@ pub record SetsMarked (own : ℕ) (roles w : List ℕ) (start end : ℕ) (sets :
 -- the masks of the sets below `end` with the clauses left that the number of roles meets
 pub record NumbersFit (end : ℕ) (numbers : List ℕ) (start : ℕ) (was sets : List ℕ) : Type 0 where
   pub size : length sets ≡ length was
-  pub each : (v : ℕ) → v < end → get_or sets v 0 ≡ bit_and (get_or was v 0) (get_or numbers (role_num (bit_or start v)) 0)
+  pub each : (v : ℕ) → v < end →
+      get_or sets v 0 ≡ bit_and (get_or was v 0) (get_or numbers (role_num (bit_or start v)) 0)
 
 -- the masks of the sets of roles below `end`
 pub record SetsFor (own : ℕ) (numbers roles w : List ℕ) (start end : ℕ) (sets : List ℕ) : Type 0 where
   pub size : length sets ≡ 256
   pub members : (v b : ℕ) → v < 2 ^ end → in_set (get_or sets v 0) b
-      ≡ ((in_set own b && all_below 8 (role_fits roles w start v b)) && in_set (get_or numbers (role_num (bit_or start v)) 0) b)
+      ≡ ((in_set own b && all_below 8 (role_fits roles w start v b))
+      && in_set (get_or numbers (role_num (bit_or start v)) 0) b)

@@ -118,14 +118,16 @@ module _ {d : ℕ} (most : d ≤ 8) {nexts : List ℕ} {k : ℕ} {ends from : Li
       entry_le a b r c e l = let x = e.is in let y = g.is in let z = g.role in omega arith
 
       least_stored : (a b r c : ℕ) → Grows d a b r c → c < k + 1 → get_or ends (first d a + b) 0 < 255 →
-          get_or (set ends at v) (first d (suc a) + more a b r) 0 ≤ get_or nexts (8 * get_or ends (first d a + b) 0 + r) 0
+          get_or (set ends at v) (first d (suc a) + more a b r) 0
+          ≤ get_or nexts (8 * get_or ends (first d a + b) 0 + r) 0
       least_stored a b r c e l y =
           split a b r c e l
           (λ z. old (f.least a b r c e z y))
           (λ z. rw (z.0, z.1, z.2, ← there, ← next, here) (le_refl v))
         where
           old : get_or ends (first d (suc a) + more a b r) 0 ≤ get_or nexts (8 * get_or ends (first d a + b) 0 + r) 0 →
-              get_or (set ends at v) (first d (suc a) + more a b r) 0 ≤ get_or nexts (8 * get_or ends (first d a + b) 0 + r) 0
+              get_or (set ends at v) (first d (suc a) + more a b r) 0
+              ≤ get_or nexts (8 * get_or ends (first d a + b) 0 + r) 0
           old w = ⊎_elim
               (λ s.
               let z : first d (suc a) + more a b r ≡ at = eqb-true _ _ s in

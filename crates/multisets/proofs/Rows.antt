@@ -42,7 +42,8 @@ module _ {n r j at : ℕ} {t fixed kept : List ℕ} (few : n ≤ 4) (role : r < 
       (λ b. rw (k.above q (ltb-false q r b) h) (omega (arith, f.most q h)))
       (met_or_not (ltb q r))
 
-  pub row_made : (up : List ℕ) → ((q : ℕ) → q < 8 → get_or up q 0 ≡ get_or fixed q 0 + get_or t (at + q) 0 * get_or kept q 0) →
+  pub row_made : (up : List ℕ) →
+      ((q : ℕ) → q < 8 → get_or up q 0 ≡ get_or fixed q 0 + get_or t (at + q) 0 * get_or kept q 0) →
       Ups (suc n) (starts (suc n) r + j) up 0
   row_made up is = record { role = λ q h. rw (zero-add q, is q h) (made q h) }
     where

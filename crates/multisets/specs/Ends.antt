@@ -1,6 +1,7 @@
 -- The least ends of groups by the multiset of their roles: one past the last user, 255 where no group acts in these
 -- roles.
-use Rattle.std.specs.Prelude.{ℕ, zero, suc, ◌+◌, ◌-◌, ◌*◌, ◌/◌, ◌%◌, ◌<◌, ◌≤◌, true, false, ◌≡◌, List, [], ◌∷◌, length, get_or, set}
+use Rattle.std.specs.Prelude.{ℕ, zero, suc, ◌+◌, ◌-◌, ◌*◌, ◌/◌, ◌%◌, ◌<◌, ◌≤◌, true, false, ◌≡◌, List, []}
+use Rattle.std.specs.Prelude.{◌∷◌, length, get_or, set}
 use Rattle.folds.specs.Sets.{in_set}
 use Rattle.multisets.specs.Ranks.{starts, first, more, rank_of}
 use Rattle.multisets.specs.Rising.{Entry}

@@ -1,5 +1,6 @@
 -- The policy base: seven tables without gaps, then a trailer of 36 bytes that points back at them.
-use Rattle.std.specs.Prelude.{ℕ, ◌+◌, ◌*◌, ◌-◌, ◌/◌, Bool, ◌&&◌, ◌||◌, not, cond, List, [], ◌∷◌, length, get_or, take, drop, ltb, eqb}
+use Rattle.std.specs.Prelude.{ℕ, ◌+◌, ◌*◌, ◌-◌, ◌/◌, Bool, ◌&&◌, ◌||◌, not, cond, List, [], ◌∷◌, length}
+use Rattle.std.specs.Prelude.{get_or, take, drop, ltb, eqb}
 use Rattle.folds.specs.Below.{any_below, sum_below}
 use Rattle.reader.specs.Bytes.{word16}
 

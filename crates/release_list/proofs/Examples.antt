@@ -5,7 +5,8 @@ use Rattle.folds.specs.Below.{join_below}
 use Rattle.release_list.specs.Text.{ascii, decimal, entry_text, entries_text, line_text, count_text}
 use Rattle.release_list.specs.Text.{releasable_text, refused_text}
 
-pub small_shop : line_text 0 2 (0 ∷ 0 ∷ 1 ∷ 1 ∷ []) ++ releasable_text 1 ≡ ascii "permission 0: 2 0/0 1/1\nreleasable 1\n"
+pub small_shop : line_text 0 2 (0 ∷ 0 ∷ 1 ∷ 1 ∷ []) ++ releasable_text 1
+    ≡ ascii "permission 0: 2 0/0 1/1\nreleasable 1\n"
 unfolding line_text entries_text entry_text count_text decimal join_below
 small_shop = refl
 

@@ -61,7 +61,8 @@ entries_standing g r byte = by_user_lem (entry_at g) (entry_user g) (entry_count
 
 -- and so is its line
 pub line_standing : (p k : ℕ) (g : List ℕ) → Rising g → ((i : ℕ) → get_or g i 0 < 256) →
-    line_text p k g ≡ ascii "permission " ++ (decimal p ++ (ascii ": " ++ (decimal k ++ (standing_text g ++ ascii "\n"))))
+    line_text p k g
+    ≡ ascii "permission " ++ (decimal p ++ (ascii ": " ++ (decimal k ++ (standing_text g ++ ascii "\n"))))
 unfolding line_text
 line_standing p k g r byte = rw (entries_standing g r (λ i l. byte (2 * i)))
 

@@ -105,7 +105,8 @@ module _ (b : List ℕ) (at : Context) (chosen : ℕ → List ℕ) (ok : report_
   -- the parts in order, and the bytes behind them as they were
   parts_bytes : (out : List ℕ) → length out ≡ 208 →
       written out ≡
-      join_below (permission_count b) (λ p. part_bytes (smallest_of b at p) (chosen p)) ++ drop (13 * permission_count b) out
+      join_below (permission_count b) (λ p. part_bytes (smallest_of b at p) (chosen p))
+      ++ drop (13 * permission_count b) out
   unfolding report_bytes
   parts_bytes out e = rw (e, eq-eqb (report_refusal b at 208) 0 ok)
 

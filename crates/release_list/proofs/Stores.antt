@@ -54,7 +54,8 @@ module _ (f : ℕ → List ℕ) where
 
   -- one text more
   pub more_written : (n : ℕ) {l m k : List ℕ} {at next behind : ℕ} →
-      Written (join_below n f) l at next m → Written (f n) m next behind k → Written (join_below (n + 1) f) l at behind k
+      Written (join_below n f) l at next m → Written (f n) m next behind k →
+      Written (join_below (n + 1) f) l at behind k
   more_written n a b = rw (join_more f n) (joined a b)
 
   -- the texts before one, and its own, are no longer than all

@@ -1,5 +1,6 @@
 -- What the program prints: a line for each permission and the count, or the refusal.
-use Rattle.std.specs.Prelude.{ℕ, ◌+◌, ◌*◌, ◌/◌, ◌%◌, ◌<◌, ◌≤◌, cond, ◌≡◌, List, [], ◌∷◌, ◌++◌, length, get_or, take, drop, ltb, eqb}
+use Rattle.std.specs.Prelude.{ℕ, ◌+◌, ◌*◌, ◌/◌, ◌%◌, ◌<◌, ◌≤◌, cond, ◌≡◌, List, [], ◌∷◌, ◌++◌, length, get_or}
+use Rattle.std.specs.Prelude.{take, drop, ltb, eqb}
 use Prim.Native.Char.{code}
 use Prim.Native.String.{String, [] as empty, ◌∷◌ as ◌then◌}
 use Rattle.folds.specs.Below.{join_below}
@@ -83,7 +84,8 @@ listing_text input chosen =
 pub record Listed (input out after : List ℕ) (n : ℕ) : Type 0 where
   pub chosen : ℕ → List ℕ
   pub shown : 4 ≤ length input → refusal_for (base_of input) (context_of input) ≡ 0 →
-      (p : ℕ) → p < permission_count (base_of input) → ShownFor (decision_of (base_of input) (context_of input)) p (chosen p)
+      (p : ℕ) → p < permission_count (base_of input) → ShownFor (decision_of (base_of input) (context_of input)) p
+      (chosen p)
   pub size : n ≡ length (listing_text input chosen)
   pub bytes : after ≡ listing_text input chosen ++ drop n out
 

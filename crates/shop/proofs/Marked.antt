@@ -7,10 +7,12 @@ use native.Mathlib.Omega.{arith}
 use Rattle.folds.specs.Below.{any_below}
 use Rattle.reader.specs.Bytes.{word16, word32}
 use Rattle.reader.specs.Tables.{contexts, record_count, table_of, table_offset, table_count, table_start, role_count}
-use Rattle.reader.specs.Tables.{length_bad, letters_bad, roles_bad, reserved_bad, tables_bad, trailer_bad, frame_refusal}
+use Rattle.reader.specs.Tables.{length_bad, letters_bad, roles_bad, reserved_bad}
+use Rattle.reader.specs.Tables.{tables_bad, trailer_bad, frame_refusal}
 use Rattle.reader.specs.Codes.{code_product, parameter_ok, held_by}
 use Rattle.reader.specs.Rules.{hierarchy_bad, users_bad, clause_slot_bad, clause_bad, clauses_bad}
-use Rattle.reader.specs.Rules.{context_condition_bad, context_slot_bad, context_bad, contexts_bad, policy_bad, policies_bad}
+use Rattle.reader.specs.Rules.{context_condition_bad, context_slot_bad, context_bad, contexts_bad}
+use Rattle.reader.specs.Rules.{policy_bad, policies_bad}
 use Rattle.reader.specs.Rules.{exclusions_bad, records_refusal, refusal_of}
 use Rattle.reader.proofs.Accepted.{accepted}
 use Rattle.weights.specs.Contexts.{out_of_range, context_holds}

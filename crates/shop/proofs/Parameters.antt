@@ -1,6 +1,7 @@
 -- The worked parameters: by computing both sides.
 use mathlib.Core.Path.{refl}
-use Rattle.reader.specs.Codes.{code_product, parameter_ok, roles_of_product, highest_below, codes_tried, parameter_answer}
+use Rattle.reader.specs.Codes.{code_product, parameter_ok, roles_of_product, highest_below}
+use Rattle.reader.specs.Codes.{codes_tried, parameter_answer}
 use Rattle.shop.specs.Parameters.{Parameters}
 
 pub parameters : Parameters

@@ -36,7 +36,8 @@ pub record Marked : Type 0 where
   pub clerk_539 : (d z : ℕ) → weight [] shop (at 539 d z) clerk permission ≡ 0
   pub clerk_1021 : (d z : ℕ) → weight [] shop (at 1021 d z) clerk permission ≡ 0
   -- 4. "Minute 600, manager alone: 17, sum 5 but one entry.", on every day and in every zone in range
-  pub alone : (d z : ℕ) → out_of_range (at 600 d z) ≡ false → decision_of shop (at 600 d z) permission manager_alone ≡ 17
+  pub alone : (d z : ℕ) → out_of_range (at 600 d z) ≡ false →
+      decision_of shop (at 600 d z) permission manager_alone ≡ 17
   pub alone_sum : (d z : ℕ) → sum_of (λ r. weight [] shop (at 600 d z) r permission) manager_alone ≡ 5
   pub alone_entries : entry_count manager_alone ≡ 1
   -- 5. "Minute 600, manager and clerk: 0, sum 6.", with either clerk
@@ -47,7 +48,8 @@ pub record Marked : Type 0 where
   pub sum_with_2 : (d z : ℕ) → sum_of (λ r. weight [] shop (at 600 d z) r permission) (manager_and_clerk 2) ≡ 6
   pub sum_with_3 : (d z : ℕ) → sum_of (λ r. weight [] shop (at 600 d z) r permission) (manager_and_clerk 3) ≡ 6
   -- 6. "Minute 600, buyer and both clerks: 17, sum 4."
-  pub three : (d z : ℕ) → out_of_range (at 600 d z) ≡ false → decision_of shop (at 600 d z) permission buyer_and_clerks ≡ 17
+  pub three : (d z : ℕ) → out_of_range (at 600 d z) ≡ false →
+      decision_of shop (at 600 d z) permission buyer_and_clerks ≡ 17
   pub three_sum : (d z : ℕ) → sum_of (λ r. weight [] shop (at 600 d z) r permission) buyer_and_clerks ≡ 4
   -- 7. "Minute 480, manager and clerk: 16.", with either clerk
   pub weightless_with_2 : (d z : ℕ) → out_of_range (at 480 d z) ≡ false →

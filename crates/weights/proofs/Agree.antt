@@ -38,7 +38,8 @@ pub record SameContexts (c d : List ℕ) : Type 0 where
       context_parameter c i j ≡ context_parameter d i j
   pub operator : (i j : ℕ) → i < record_count contexts c → j < context_length c i →
       context_operator c i j ≡ context_operator d i j
-  pub value : (i j : ℕ) → i < record_count contexts c → j < context_length c i → context_value c i j ≡ context_value d i j
+  pub value : (i j : ℕ) → i < record_count contexts c → j < context_length c i →
+      context_value c i j ≡ context_value d i j
 
 -- A records that agree but for their weights
 pub record SameChoice (a d : List ℕ) : Type 0 where
@@ -56,7 +57,8 @@ pub record SameWeighing (b d : List ℕ) : Type 0 where
   pub hierarchy : SameHierarchy (table_of b 0) (table_of d 0)
   pub contexts : SameContexts (table_of b 4) (table_of d 4)
   pub policies : SameChoice (table_of b 5) (table_of d 5)
-  pub weights : (i : ℕ) → i < record_count 5 (table_of b 5) → policy_weight (table_of b 5) i ≡ policy_weight (table_of d 5) i
+  pub weights : (i : ℕ) → i < record_count 5 (table_of b 5) →
+      policy_weight (table_of b 5) i ≡ policy_weight (table_of d 5) i
 
 -- chains of at most n records
 same_chain : (h k : List ℕ) → SameHierarchy h k → (n s j : ℕ) → chain_within n h s j ≡ chain_within n k s j

@@ -69,7 +69,8 @@ module _ (R : ℕ) (h : List ℕ) (small : R ≤ 8) (fine : hierarchy_bad R h �
       (λ e. rw e) (met_or_not (eqb (senior h i) s)))
 
   -- s is senior to j by one record, or to a senior of j by one record
-  pub senior_step : (s j : ℕ) → senior_to h s j ≡ any_below (record_count hierarchy h) (starts (λ r. senior_to h r j) h s j)
+  pub senior_step : (s j : ℕ) → senior_to h s j ≡ any_below (record_count hierarchy h)
+      (starts (λ r. senior_to h r j) h s j)
   unfolding senior_to chain_within
   senior_step s j =
       any_same (starts (λ r. chain_within 7 h r j) h s j) (starts (λ r. chain_within 8 h r j) h s j)

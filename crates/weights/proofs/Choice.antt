@@ -173,7 +173,8 @@ module _ (in_force f : ℕ → Bool) (a : List ℕ) where
             cond (eqb k (8 * p + r)) x 0 ≡ cond (candidate in_force f a r p i) (policy_weight a i) 0
         given r p m =
             rw (at_x, at_k, place_eqb (policy_role a i) (policy_permission a i) r p role m, on)
-            (joined (eqb (policy_role a i) r && eqb (policy_permission a i) p) (f (policy_type a i)) (policy_weight a i))
+            (joined (eqb (policy_role a i) r && eqb (policy_permission a i) p) (f (policy_type a i))
+            (policy_weight a i))
 
         step : (r p : ℕ) → r < 8 → get_or v (8 * p + r) 0 ≡ chosen_weight [] in_force f a i r p →
             get_or (set v k y) (8 * p + r) 0 ≡ chosen_weight [] in_force f a (i + 1) r p

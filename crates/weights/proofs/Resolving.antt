@@ -162,7 +162,8 @@ module _ (rules : List ℕ) (in_force f : ℕ → Bool) (a : List ℕ) where
               let b' = stored_here up weights k (policy_weight a n) (rw keeps.size small) in
               rw (← at_place, a', b') (taken_at heavy is (rw (← at_place) at (keeps.at r p l m)) up refl)
 
-          elsewhere : (r p : ℕ) → r < 8 → p < 16 → (8 * p + r ≡ k → ⊥) → candidate in_force f a r p n ≡ false → After r p
+          elsewhere : (r p : ℕ) → r < 8 → p < 16 → (8 * p + r ≡ k → ⊥) → candidate in_force f a r p n ≡ false →
+              After r p
           elsewhere r p l m other is =
               rw (
                 stored_elsewhere up kept k n (8 * p + r) other,

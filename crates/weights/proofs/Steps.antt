@@ -41,8 +41,10 @@ pub in_with : (k y j : ℕ) → in_set (bit_or (2 ^ k) y) j ≡ (eqb k j || in_s
 in_with k y j = in_or (2 ^ k) y j ∙ ap (λ (b : Bool). b || in_set y j) (in_one k j ∙ eqb_sym j k)
 
 -- a record of role s adds its junior and that one's juniors
-pub junior_more : (h known : List ℕ) (x s j i : ℕ) → in_set x j ≡ any_below i (next_junior h known s j) → senior h i ≡ s →
-    in_set (bit_or x (bit_or (2 ^ junior h i) (get_or known (junior h i) 0))) j ≡ any_below (i + 1) (next_junior h known s j)
+pub junior_more : (h known : List ℕ) (x s j i : ℕ) → in_set x j ≡ any_below i (next_junior h known s j) →
+    senior h i ≡ s →
+    in_set (bit_or x (bit_or (2 ^ junior h i) (get_or known (junior h i) 0))) j
+    ≡ any_below (i + 1) (next_junior h known s j)
 junior_more h known x s j i inv e =
     let k = junior h i in
     let y = get_or known k 0 in

@@ -36,7 +36,8 @@ given_le true h = h
 given_le false h = omega arith
 
 -- a table A that passed the check passes it with more roles and permissions
-pub policies_wider : (R P S Q : ℕ) (a : List ℕ) → R ≤ S → P ≤ Q → policies_bad R P a ≡ false → policies_bad S Q a ≡ false
+pub policies_wider : (R P S Q : ℕ) (a : List ℕ) → R ≤ S → P ≤ Q → policies_bad R P a ≡ false →
+    policies_bad S Q a ≡ false
 unfolding policies_bad policy_bad
 policies_wider R P S Q a r p fine =
     any_each (policy_bad S Q a) (record_count policies a)

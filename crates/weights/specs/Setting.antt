@@ -86,7 +86,8 @@ pub record HandedOn (juniors : List ℕ) (j x n : ℕ) (was w : List ℕ) : Type
 pub record Summed (owns inhs juniors : List ℕ) (p n : ℕ) (w : List ℕ) : Type 0 where
   pub size : length w ≡ 8
   pub role : (r : ℕ) → r < 8 →
-      get_or w r 0 ≡ get_or owns (8 * p + r) 0 + sum_below n (λ j. given (get_or juniors r 0) j (get_or inhs (8 * p + j) 0))
+      get_or w r 0
+      ≡ get_or owns (8 * p + r) 0 + sum_below n (λ j. given (get_or juniors r 0) j (get_or inhs (8 * p + j) 0))
 
 -- j is a junior of s by one record, or of a junior whose juniors are known
 abbrev pub next_junior : List ℕ → List ℕ → ℕ → ℕ → ℕ → Bool
