@@ -20,7 +20,7 @@ use compare::valid::{random_base, Size};
 use compare::{agreed_report, permission_count};
 use model::{Answer, Context};
 
-/// Where `rt` puts the program.
+/// Where `tools/build` puts the program.
 const PROGRAM: &str = concat!(env!("CARGO_MANIFEST_DIR"), "/../../target/bin/release_list");
 
 /// What the program prints if it gets its input in pieces of this length.
