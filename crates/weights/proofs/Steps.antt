@@ -74,7 +74,7 @@ pub juniors_more : (h known : List ℕ) (k x : ℕ) → k < 8 → length known �
     ((s j : ℕ) → 8 ≤ s + k → s < 8 → in_set (get_or known s 0) j ≡ senior_to h s j) →
     ((j : ℕ) → in_set x j ≡ any_below (record_count hierarchy h) (next_junior h known (7 - k) j)) →
     (s j : ℕ) → 8 ≤ s + (k + 1) → s < 8 → in_set (get_or (set known (7 - k) x) s 0) j ≡ senior_to h s j
-juniors_more h known k x l n fine inv new s j at_least_lem below =
+juniors_more h known k x l n fine inv new s j at_least below =
     ⊎_elim
     (λ e. let q : s ≡ 7 - k = eqb-true _ _ e in
     rw (q, get_or-set_same known (7 - k) x 0 (omega arith))
