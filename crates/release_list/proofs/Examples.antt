@@ -16,9 +16,9 @@ unfolding line_text entries_text entry_text decimal join_below
 no_group = refl
 
 -- by rising user, however the group stands
-pub by_user_lem : line_text 3 3 (23 ∷ 7 ∷ 9 ∷ 0 ∷ 10 ∷ 1 ∷ []) ≡ ascii "permission 3: 3 9/0 10/1 23/7\n"
+pub by_user : line_text 3 3 (23 ∷ 7 ∷ 9 ∷ 0 ∷ 10 ∷ 1 ∷ []) ≡ ascii "permission 3: 3 9/0 10/1 23/7\n"
 unfolding line_text entries_text entry_text decimal join_below
-by_user_lem = refl
+by_user = refl
 
 pub refused : refused_text 11 ≡ ascii "refused 11\n"
 unfolding count_text decimal

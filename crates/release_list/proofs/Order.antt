@@ -31,15 +31,15 @@ module _ (text : ℕ → List ℕ) (user : ℕ → ℕ) where
       ∙ join_none (λ i. cond (eqb (user i) u) (text i) [])
 
   -- users that rise strictly and lie below m: the texts user by user are the texts as they stand
-  by_user_lem : (n m : ℕ) → ((i j : ℕ) → i < j → j < n → user i < user j) → ((i : ℕ) → i < n → user i < m) →
+  by_user : (n m : ℕ) → ((i j : ℕ) → i < j → j < n → user i < user j) → ((i : ℕ) → i < n → user i < m) →
       join_below m (of n) ≡ join_below n text
   unfolding join_below
-  by_user_lem zero m rises below = join_tail (of zero) 0 m zero-le (λ u k l. refl)
-  by_user_lem (suc n) m rises below =
+  by_user zero m rises below = join_tail (of zero) 0 m zero-le (λ u k l. refl)
+  by_user (suc n) m rises below =
       join_tail (of (suc n)) (suc (user n)) m (below n (omega arith)) above
       ∙ ap₂ ◌++◌
       (join_same (of (suc n)) (of n) (user n) (λ u l. rw (ne_eqb (user n) u (λ q. omega arith)) (append-nil (of n u)))
-      ∙ by_user_lem n (user n) (λ i j l h. rises i j l (omega arith)) (λ i l. rises i n l (omega arith)))
+      ∙ by_user n (user n) (λ i j l h. rises i j l (omega arith)) (λ i l. rises i n l (omega arith)))
       (rw (eq-eqb (user n) (user n) refl, none_of n (user n) lower))
     where
       at_most : (i : ℕ) → i < suc n → user i ≤ user n
@@ -57,7 +57,7 @@ module _ (text : ℕ → List ℕ) (user : ℕ → ℕ) where
 pub entries_standing : (g : List ℕ) → Rising g → ((i : ℕ) → i < entry_count g → entry_user g i < 256) →
     entries_text g ≡ standing_text g
 unfolding entries_text standing_text
-entries_standing g r byte = by_user_lem (entry_at g) (entry_user g) (entry_count g) 256 r.rises byte
+entries_standing g r byte = by_user (entry_at g) (entry_user g) (entry_count g) 256 r.rises byte
 
 -- and so is its line
 pub line_standing : (p k : ℕ) (g : List ℕ) → Rising g → ((i : ℕ) → get_or g i 0 < 256) →

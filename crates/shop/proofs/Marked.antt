@@ -28,10 +28,10 @@ use Rattle.shop.specs.Shop.{shop, with_parameter, up_to600, from600, before600, 
 use Rattle.shop.specs.Marked.{Marked}
 
 -- in an accepted base the test by pairs of clauses, which computes, says whether two context numbers are related
-related_by_lem : (b : List ℕ) → refusal_of b ≡ 0 → (x y : ℕ) →
+related_by : (b : List ℕ) → refusal_of b ≡ 0 → (x y : ℕ) →
     related (table_of b contexts) x y
     ≡ any_below (record_count contexts (table_of b contexts) + 1) (meets_some (table_of b contexts) x y)
-related_by_lem b ok = related_pairs (table_of b contexts) (accepted b ok).contexts (whole_contexts b ok)
+related_by b ok = related_pairs (table_of b contexts) (accepted b ok).contexts (whole_contexts b ok)
 
 pub marked : Marked
 unfolding shop with_parameter edges
@@ -85,7 +85,7 @@ marked =
       from_600 = λ c. simp or-false;
       before_600 = λ c. simp or-false;
       before_0 = λ c. refl;
-      met_at_600 = related_by_lem edges refl up_to600 from600;
-      apart_at_600 = related_by_lem edges refl before600 from600;
-      never = related_by_lem edges refl before0 before0;
+      met_at_600 = related_by edges refl up_to600 from600;
+      apart_at_600 = related_by edges refl before600 from600;
+      never = related_by edges refl before0 before0;
     }

@@ -47,8 +47,8 @@ pub record Before (rules : List ℕ) (i j : ℕ) : Type 0 where
 
 -- by the rules policy i counts in own, and policy j, one of type 1, in inh
 pub record Counts (rules : List ℕ) (i j : ℕ) : Type 0 where
-  pub in_own_lem : chosen rules in_force any_type table (record_count policies table) role permission ≡ i
-  pub in_inh_lem : chosen rules in_force type_one table (record_count policies table) role permission ≡ j
+  pub in_own : chosen rules in_force any_type table (record_count policies table) role permission ≡ i
+  pub in_inh : chosen rules in_force type_one table (record_count policies table) role permission ≡ j
 
 -- so it is by a list that 22 doesn't refuse
 pub record ByList (rules : List ℕ) (i j : ℕ) : Type 0 where
