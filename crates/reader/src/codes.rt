@@ -40,8 +40,7 @@ struct Tried {
 
 // Tries the codes of the roles below `roles` on the parameter, in role order: one that divides the rest is divided out.
 // Ends as soon as the rest is 1: then the parameter is the product of different codes.
-// The table of codes is lent: the compiler learns its length only in the callers, takes the loop in there and writes
-// out all turns. With the length known here, the loop would stay a call of its own and take longer.
+// The table of codes is lent; docs/PERFORMANCE.md says what the compiler makes of it.
 fn try_codes(table: &[u32], x: u32, roles: u8) -> Tried
     requires { (table.now ≡ codes) × (roles ≤ 8) }
     ensures { (result.ok ≡ parameter_ok roles x) × (result.tried ≡ codes_tried roles x) }
