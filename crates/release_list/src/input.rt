@@ -1,12 +1,13 @@
 // What the program reads.
-ghost use Rattle.std.specs.Prelude.{◌≤◌, length, IfOk};
+ghost use Rattle.std.specs.Prelude.{IfOk};
+ghost use Rattle.std.specs.Counts.{IsPrefixLen};
 
 use std::io;
 use std::io::Read;
 
 // Inner: reads until `buf` is full or the input ends; how many bytes it put at the start of `buf`.
 pub fn read_full<R: Read>(reader: &mut R, buf: &mut [u8]) -> io::Result<usize>
-    ensures { IfOk result (λ n. n ≤ length buf.new) }
+    ensures { IfOk result (λ n. IsPrefixLen n buf.new) }
 {
     let mut done = 0;
     while done < buf.len() {
