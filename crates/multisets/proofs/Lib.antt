@@ -9,3 +9,4 @@ pub mod Turned
 pub mod Writing
 pub mod Bytes
 pub mod Rows
+mod Reading

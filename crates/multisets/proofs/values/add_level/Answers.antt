@@ -7,21 +7,8 @@ use Rattle.multisets.proofs.Blocks.{starts_le, total_block, total_le}
 use Rattle.multisets.proofs.Places.{first_all}
 use Rattle.multisets.proofs.Holding.{block_reads, block_place, block_room, block_apart, block_written}
 use Rattle.multisets.proofs.Holding.{level_start, level_end}
+use Rattle.multisets.proofs.Reading.{Read, read}
 use Rattle.multisets.proofs.values.add_level.Goals as goal
-
--- what is read of the block of role r: where the level before starts, this one, and the block in it, and its length
-record Read (d n r before here start count : ℕ) : Type 0 where
-  before_is : before ≡ first d n
-  here_is : here ≡ first d (suc n)
-  start_is : start ≡ starts (suc n) r
-  count_is : count ≡ starts n (suc r)
-
-read : {d n r before here start count : ℕ} → before ≡ first d n → here ≡ first d (n + 1) → start ≡ starts (n + 1) r →
-    count ≡ starts n (r + 1) → Read d n r before here start count
-read {d} {n} {r} before here start count =
-    let one : n + 1 ≡ suc n = omega arith in
-    let next : r + 1 ≡ suc r = omega arith in
-    record { before_is = before; here_is = rw one at here; start_is = rw one at start; count_is = rw next at count }
 
 -- the block of role r, of plain values
 module _ {d end n : ℕ} (placed : ℕ) {w : List ℕ} {r : ℕ} {t : List ℕ}
