@@ -6,3 +6,4 @@ pub mod Sets
 pub mod Gathers
 pub mod Lowest
 pub mod Lists
+pub mod Chains
