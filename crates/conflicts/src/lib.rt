@@ -25,8 +25,8 @@ pub fn list(base: &[u8], out: &mut [u8]) -> Answer
     let one = &rows::contradictions(base);
     let two = &rows::overlaps(base);
     let three = &rows::holders(base);
-    let n = reader::trailer::part(base, reader::POLICIES).len() / 8;
-    let m = reader::trailer::part(base, reader::USERS).len() / 4;
+    let n = reader::trailer::part(base, reader::Table::Policies).len() / 8;
+    let m = reader::trailer::part(base, reader::Table::Users).len() / 4;
     let count = writing::count_all(one, two, n, three, m);
     if out.len() < 3 * (count as usize) {
         return Answer { refusal: 18, count };

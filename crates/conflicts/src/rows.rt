@@ -137,9 +137,9 @@ pub fn contradictions(base: &[u8]) -> [u64; 64]
     requires { refusal_of base.now ≡ 0 }
     ensures { Contradictions base.now result }
 {
-    let a = trailer::part(base, reader::POLICIES);
+    let a = trailer::part(base, reader::Table::Policies);
     let names = slots::names(a);
-    let related = slots::relations(trailer::part(base, reader::CONTEXTS), names);
+    let related = slots::relations(trailer::part(base, reader::Table::Contexts), names);
     let mut rows = [0u64; 64];
     for i in 0..a.len() / 8 {
         rows[i] = contradict_row(&related, a, i);
@@ -152,9 +152,9 @@ pub fn overlaps(base: &[u8]) -> [u64; 64]
     requires { refusal_of base.now ≡ 0 }
     ensures { Overlaps base.now result }
 {
-    let a = trailer::part(base, reader::POLICIES);
-    let covered = covers::cover_sets(trailer::part(base, reader::HIERARCHY), a);
-    let apart = covers::excluded_sets(trailer::part(base, reader::EXCLUSIONS));
+    let a = trailer::part(base, reader::Table::Policies);
+    let covered = covers::cover_sets(trailer::part(base, reader::Table::Hierarchy), a);
+    let apart = covers::excluded_sets(trailer::part(base, reader::Table::Exclusions));
     let mut rows = [0u64; 64];
     for i in 0..a.len() / 8 {
         rows[i] = overlap_row(&apart, &covered, a, i);
@@ -167,8 +167,8 @@ pub fn holders(base: &[u8]) -> [u64; 64]
     requires { refusal_of base.now ≡ 0 }
     ensures { Holders base.now result }
 {
-    let users = trailer::part(base, reader::USERS);
-    let x = trailer::part(base, reader::EXCLUSIONS);
+    let users = trailer::part(base, reader::Table::Users);
+    let x = trailer::part(base, reader::Table::Exclusions);
     let roles = trailer::role_count(base);
     let mut rows = [0u64; 64];
     for u in 0..users.len() / 4 {

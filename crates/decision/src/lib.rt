@@ -97,7 +97,7 @@ pub fn decide_checked(base: &[u8], permission: u8, s: Fixed, group: &[u8]) -> u8
     if groups::some_weightless(group, w) {
         return 16;
     }
-    let k = reader::trailer::part(base, reader::CLAUSES);
+    let k = reader::trailer::part(base, reader::Table::Clauses);
     let n = groups::entry_count(group);
     if conditions::permission_holds(
         k,

@@ -5,3 +5,4 @@ pub mod Accepted
 pub mod Conditions
 pub mod Replaced
 pub mod Answered
+pub mod Results

@@ -2,9 +2,10 @@
 ghost use Rattle.std.specs.Prelude.{true, ◌≡◌, ◌/◌, ◌≤◌, ◌<◌};
 ghost use Rattle.reader.specs.Codes.{codes, code_of, parameter_ok, code_divides, held_by};
 ghost use Rattle.reader.specs.Codes.{codes_tried, roles_read, parameter_answer};
+ghost use Rattle.reader.specs.Refusals.{answer_from};
 ghost use Rattle.reader.specs.Rules.{users_bad};
 
-use crate::{Answer, bytes};
+use crate::{Refusal, Refused, bytes};
 
 // The identity codes of roles 0 to 7.
 const CODES: [u32; 8] = [3, 5, 7, 11, 13, 17, 19, 23];
@@ -86,16 +87,19 @@ fn roles_read(roles: u32) -> u8
 }
 
 // Entry point: the check of one parameter with so many roles: 0 or 5; both carry how many codes were tried.
-pub fn check_parameter(parameter: u32, roles: u32) -> Answer
-    ensures { result ≡ parameter_answer roles parameter }
+pub fn check_parameter(parameter: u32, roles: u32) -> Result<u32, Refused>
+    ensures { answer_from result ≡ parameter_answer roles parameter }
 {
     let table = CODES;
     let t = try_codes(&table, parameter, roles_read(roles));
-    let refusal: u8 = if t.ok { 0 } else { 5 };
-    Answer {
-        refusal,
-        count: t.tried as u32,
+    let count = t.tried as u32;
+    if t.ok {
+        return Ok(count);
     }
+    Err(Refused {
+        refusal: Refusal::Users,
+        count,
+    })
 }
 
 // Inner: membership; false where the user or the role isn't there.

@@ -4,28 +4,19 @@
 ghost use Rattle.std.specs.Prelude.{◌≡◌};
 ghost use Rattle.reader.specs.Tables.{table_of, frame_refusal};
 ghost use Rattle.reader.specs.Rules.{refusal_of, records_refusal};
+ghost use Rattle.reader.specs.Refusals.{number_of, answer_from};
 
 pub mod bytes;
 mod clauses;
 pub mod codes;
 mod contexts;
 mod records;
+mod refusal;
+mod tables;
 pub mod trailer;
 
-// The tables, by their place in the base.
-pub const HIERARCHY: usize = 0;
-
-pub const USERS: usize = 1;
-
-pub const PERMISSIONS: usize = 2;
-
-pub const CLAUSES: usize = 3;
-
-pub const CONTEXTS: usize = 4;
-
-pub const POLICIES: usize = 5;
-
-pub const EXCLUSIONS: usize = 6;
+pub use refusal::{Refusal, Refused};
+pub use tables::Table;
 
 // The answer of a call that also carries a number: 0 or the refusal, and the number.
 #[derive(Clone, Copy)]
@@ -34,53 +25,63 @@ pub struct Answer {
     pub count: u32,
 }
 
+// For C, and for the definitions.
+impl From<Result<u32, Refused>> for Answer {
+    ghost from_gives = { λ given answer. answer ≡ answer_from given };
+
+    fn from(given: Result<u32, Refused>) -> Answer {
+        match given {
+            Ok(count) => Answer { refusal: 0, count },
+            Err(refused) => Answer {
+                refusal: refused.refusal.number(),
+                count: refused.count,
+            },
+        }
+    }
+}
+
 // Entry point: table t, that part of the lent base and no copy.
 pub fn table(base: &[u8], t: usize) -> &[u8]
     ensures { result.now ≡ table_of base.now t }
 {
-    if t < 7 {
-        if trailer::frame_refusal(base) == 0 {
-            return trailer::part(base, t);
-        }
+    if t < 7 && trailer::frame_refusal(base).is_ok() {
+        return trailer::part_at(base, t);
     }
     &base[0..0]
 }
 
-// Entry point: the first of refusals 1 to 9 that applies, or 0.
-pub fn check(base: &[u8]) -> u8
-    ensures { result ≡ refusal_of base.now }
+// Entry point: the base check, refusals 1 to 9.
+pub fn check(base: &[u8]) -> Result<(), Refusal>
+    ensures { number_of result ≡ refusal_of base.now }
 {
-    let frame = trailer::frame_refusal(base);
-    if frame != 0 {
-        return frame;
-    }
+    trailer::frame_refusal(base)?;
     records_refusal(base)
 }
 
-// Inner: the first of refusals 4 to 9 that applies, or 0, for a base that passed 1 to 3.
-fn records_refusal(base: &[u8]) -> u8
+// Inner: refusals 4 to 9, of a base that passed 1 to 3.
+fn records_refusal(base: &[u8]) -> Result<(), Refusal>
     requires { frame_refusal base.now ≡ 0 }
-    ensures { result ≡ records_refusal base.now }
+    ensures { number_of result ≡ records_refusal base.now }
 {
     let roles = trailer::role_count(base);
     let permissions = trailer::permission_count(base);
-    if records::hierarchy_bad(trailer::part(base, HIERARCHY), roles) {
-        return 4;
+    if records::hierarchy_bad(trailer::part(base, Table::Hierarchy), roles) {
+        return Err(Refusal::Hierarchy);
     }
-    if codes::users_bad(trailer::part(base, USERS), roles) {
-        return 5;
+    if codes::users_bad(trailer::part(base, Table::Users), roles) {
+        return Err(Refusal::Users);
     }
-    if clauses::clauses_bad(trailer::part(base, CLAUSES), roles, permissions) {
-        return 6;
+    if clauses::clauses_bad(trailer::part(base, Table::Clauses), roles, permissions) {
+        return Err(Refusal::Clauses);
     }
-    if contexts::contexts_bad(trailer::part(base, CONTEXTS)) {
-        return 7;
+    if contexts::contexts_bad(trailer::part(base, Table::Contexts)) {
+        return Err(Refusal::Contexts);
     }
-    if records::policies_bad(trailer::part(base, POLICIES), roles, permissions) {
-        return 8;
+    if records::policies_bad(trailer::part(base, Table::Policies), roles, permissions) {
+        return Err(Refusal::Policies);
     }
-    if records::exclusions_bad(trailer::part(base, EXCLUSIONS), roles, permissions) {
-        return 9;
+    if records::exclusions_bad(trailer::part(base, Table::Exclusions), roles, permissions) {
+        return Err(Refusal::Exclusions);
     }
-    0
+    Ok(())
 }

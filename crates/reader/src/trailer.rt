@@ -3,26 +3,55 @@ ghost use Rattle.std.specs.Prelude.{◌≡◌, ◌≤◌, ◌<◌, length};
 ghost use Rattle.reader.specs.Tables.{width, limit, table_offset, table_count, role_count, length_bad, letters_bad};
 ghost use Rattle.reader.specs.Tables.{reserved_bad, tables_bad, trailer_bad, frame_refusal, table_of};
 ghost use Rattle.reader.specs.Tables.{user_count, permission_count};
+ghost use Rattle.reader.specs.Refusals.{number_of};
+ghost use Rattle.reader.specs.Places.{place_of};
 
-use crate::{PERMISSIONS, USERS, bytes};
+use crate::{Refusal, Table, bytes};
 
-// Bytes a record, and records at most, by table.
-const WIDTHS: [usize; 7] = [2, 4, 2, 16, 16, 8, 3];
-
-const LIMITS: [usize; 7] = [28, 24, 16, 64, 32, 64, 32];
-
-fn width_of(t: usize) -> usize
-    requires { t < 7 }
-    ensures { (result ≡ width t) × (result ≤ 16) }
-{
-    WIDTHS[t]
+// A table's room: bytes a record, and records at most.
+#[derive(Clone, Copy)]
+struct Room {
+    width: usize,
+    limit: usize,
 }
 
-fn limit_of(t: usize) -> usize
+// By table: H, U, P, K, C, A, X.
+const ROOMS: [Room; 7] = [
+    Room {
+        width: 2,
+        limit: 28,
+    },
+    Room {
+        width: 4,
+        limit: 24,
+    },
+    Room {
+        width: 2,
+        limit: 16,
+    },
+    Room {
+        width: 16,
+        limit: 64,
+    },
+    Room {
+        width: 16,
+        limit: 32,
+    },
+    Room {
+        width: 8,
+        limit: 64,
+    },
+    Room {
+        width: 3,
+        limit: 32,
+    },
+];
+
+fn room_of(t: usize) -> Room
     requires { t < 7 }
-    ensures { (result ≡ limit t) × (result ≤ 64) }
+    ensures { (result.width ≡ width t) × (result.width ≤ 16) × (result.limit ≡ limit t) × (result.limit ≤ 64) }
 {
-    LIMITS[t]
+    ROOMS[t]
 }
 
 fn table_offset(base: &[u8], t: usize) -> usize
@@ -87,13 +116,14 @@ fn tables_bad(base: &[u8]) -> bool
     let mut at: usize = 0;
     for t in 0..7usize {
         let n = table_count(base, t);
-        if limit_of(t) < n {
+        let room = room_of(t);
+        if room.limit < n {
             return true;
         }
         if table_offset(base, t) != at {
             return true;
         }
-        at = at + n * width_of(t);
+        at = at + n * room.width;
     }
     at != base.len() - 36
 }
@@ -116,30 +146,38 @@ fn trailer_bad(base: &[u8]) -> bool
     tables_bad(base)
 }
 
-// Inner: the first of refusals 1 to 3 that applies, or 0.
-pub fn frame_refusal(base: &[u8]) -> u8
-    ensures { result ≡ frame_refusal base.now }
+// Inner: refusals 1 to 3.
+pub fn frame_refusal(base: &[u8]) -> Result<(), Refusal>
+    ensures { number_of result ≡ frame_refusal base.now }
 {
     if length_bad(base) {
-        return 1;
+        return Err(Refusal::BaseLength);
     }
     if letters_bad(base) {
-        return 2;
+        return Err(Refusal::Letters);
     }
     if trailer_bad(base) {
-        return 3;
+        return Err(Refusal::Trailer);
     }
-    0
+    Ok(())
 }
 
 // Inner: table t of a base that passed 1 to 3.
-pub fn part(base: &[u8], t: usize) -> &[u8]
+pub fn part_at(base: &[u8], t: usize) -> &[u8]
     requires { (frame_refusal base.now ≡ 0) × (t < 7) }
     ensures { result.now ≡ table_of base.now t }
 {
     let a = table_offset(base, t);
-    let e = a + table_count(base, t) * width_of(t);
+    let e = a + table_count(base, t) * room_of(t).width;
     &base[a..e]
+}
+
+// Inner: a table of a base that passed 1 to 3.
+pub fn part(base: &[u8], table: Table) -> &[u8]
+    requires { frame_refusal base.now ≡ 0 }
+    ensures { result.now ≡ table_of base.now (place_of table) }
+{
+    part_at(base, table as usize)
 }
 
 // Inner: the number of users of a base that passed 1 to 3.
@@ -147,7 +185,7 @@ pub fn user_count(base: &[u8]) -> usize
     requires { frame_refusal base.now ≡ 0 }
     ensures { result ≡ user_count base.now }
 {
-    part(base, USERS).len() / 4
+    part(base, Table::Users).len() / 4
 }
 
 // Inner: the number of permissions of a base that passed 1 to 3.
@@ -155,5 +193,5 @@ pub fn permission_count(base: &[u8]) -> u8
     requires { frame_refusal base.now ≡ 0 }
     ensures { result ≡ permission_count base.now }
 {
-    (part(base, PERMISSIONS).len() / 2) as u8
+    (part(base, Table::Permissions).len() / 2) as u8
 }

@@ -77,7 +77,7 @@ fn part_for<'a>(
 {
     let juniors = s.juniors;
     let w = weights::role_weights(own, inh, juniors, permission);
-    let k = reader::trailer::part(base, reader::CLAUSES);
+    let k = reader::trailer::part(base, reader::Table::Clauses);
     let d = bytes::wide(reader::trailer::role_count(base));
     let nobody = Placed {
         count: 0,

@@ -30,7 +30,7 @@ pub fn bound(base: &[u8], policy: u32, weight: u32, group: &[u8]) -> Answer
             count: 0,
         };
     }
-    let a = reader::trailer::part(base, reader::POLICIES);
+    let a = reader::trailer::part(base, reader::Table::Policies);
     if change_refused(a.len() / 8, policy, weight) {
         return Answer {
             refusal: 21,

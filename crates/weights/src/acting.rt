@@ -14,7 +14,7 @@ pub fn acting_roles(base: &[u8], juniors: [u8; 8], user: usize) -> u8
     requires { (refusal_of base.now ≡ 0) × Juniors (table_of base.now hierarchy) juniors }
     ensures { result ≡ set_below 8 (may_act base.now user) }
 {
-    let users = reader::trailer::part(base, reader::USERS);
+    let users = reader::trailer::part(base, reader::Table::Users);
     let roles = reader::trailer::role_count(base);
     let mut set: u8 = 0;
     for s in 0..8u8 {

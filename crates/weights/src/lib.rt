@@ -40,7 +40,7 @@ pub fn juniors_of_base(base: &[u8]) -> [u8; 8]
     requires { refusal_of base.now ≡ 0 }
     ensures { Juniors (table_of base.now hierarchy) result }
 {
-    seniority::juniors(reader::trailer::part(base, reader::HIERARCHY))
+    seniority::juniors(reader::trailer::part(base, reader::Table::Hierarchy))
 }
 
 // Inner: the setting of an accepted base without a list.
@@ -48,7 +48,7 @@ pub fn setting(base: &[u8], at: Context) -> Fixed
     requires { refusal_of base.now ≡ 0 }
     ensures { (result.at ≡ at) × (rules_of result ≡ []) × FixedBy base.now result }
 {
-    let contexts = contexts::holding(reader::trailer::part(base, reader::CONTEXTS), at);
+    let contexts = contexts::holding(reader::trailer::part(base, reader::Table::Contexts), at);
     let juniors = juniors_of_base(base);
     Fixed {
         at,
@@ -84,7 +84,7 @@ pub fn choose(base: &[u8], s: Fixed, own: &mut [u8; 128], inh: &mut [u8; 128])
     ensures { ChosenBy (rules_of s) base.now s.at own.new inh.new }
 {
     let contexts = s.contexts;
-    let a = reader::trailer::part(base, reader::POLICIES);
+    let a = reader::trailer::part(base, reader::Table::Policies);
     let listed = s.listed;
     if listed == 0 {
         policies::choose_first(a, contexts, own, inh);

@@ -59,23 +59,23 @@ last {t = t} turn past =
 pub loop-t-init : goal.loop-t-init
 loop-t-init c = first _
 
-pub returns-then-limit_of-n : goal.returns-then-limit_of-n
-returns-then-limit_of-n c =
-    over c.loop-t.invariant c.loop-t-test.true c.table_count-n.ensures.0 c.limit_of.ensures.0 c.if-limit_of-n.true
+pub returns-then-room-n : goal.returns-then-room-n
+returns-then-room-n c =
+    over c.loop-t.invariant c.loop-t-test.true c.table_count-n.ensures.0 c.room_of-room.ensures.2 c.if-room-n.true
 
 pub returns-then-table_offset-at : goal.returns-then-table_offset-at
 returns-then-table_offset-at c =
-    apart c.loop-t.invariant c.loop-t-test.true c.table_count-n.ensures.0 c.limit_of.ensures.0
-    c.if-limit_of-n.false c.table_offset.ensures.0 c.if-table_offset-at.true
+    apart c.loop-t.invariant c.loop-t-test.true c.table_count-n.ensures.0 c.room_of-room.ensures.2
+    c.if-room-n.false c.table_offset.ensures.0 c.if-table_offset-at.true
 
 pub loop-t-preserved : goal.loop-t-preserved
 loop-t-preserved c =
     let turn = c.loop-t.invariant in
     let there = c.loop-t-test.true in
     let n_is = c.table_count-n.ensures.0 in
-    let most_is = c.limit_of.ensures.0 in
-    let w_is = c.width_of.ensures.0 in
-    let few = c.if-limit_of-n.false in
+    let most_is = c.room_of-room.ensures.2 in
+    let w_is = c.room_of-room.ensures.0 in
+    let few = c.if-room-n.false in
     again turn there
     (in_place turn there n_is most_is few c.table_offset.ensures.0 c.if-table_offset-at.false)
     (size there few most_is w_is) n_is w_is

@@ -3,7 +3,7 @@ use Rattle.std.proofs.Common.{ℕ, ◌+◌, ◌-◌, ◌*◌, ◌<◌, ◌≤◌
 use native.Mathlib.Nat.{add-sub_cancel_left}
 use Rattle.reader.specs.Tables.{width, table_offset, table_count, frame_refusal, part_of, table_of}
 use Rattle.reader.proofs.Frame.{framed, size_le, table_end, table_is}
-use Rattle.reader.proofs.trailer.part.Goals as goal
+use Rattle.reader.proofs.trailer.part_at.Goals as goal
 
 -- what is read of table t: where it starts, how many records it has, and their width
 record Read (b : List ℕ) (t a n w : ℕ) : Type 0 where
@@ -36,7 +36,7 @@ slice_bounds-result-end c =
       there = c.requires.1;
       a_is = c.table_offset-a.ensures.0;
       n_is = c.table_count.ensures.0;
-      w_is = c.width_of.ensures.0;
+      w_is = c.room_of.ensures.0;
     })
 
 pub returns : goal.returns
@@ -46,5 +46,5 @@ returns c =
       there = c.requires.1;
       a_is = c.table_offset-a.ensures.0;
       n_is = c.table_count.ensures.0;
-      w_is = c.width_of.ensures.0;
+      w_is = c.room_of.ensures.0;
     })
