@@ -2,26 +2,21 @@
 #![tactic(auto)]
 
 ghost use Rattle.std.specs.Prelude.{◌≡◌, length};
+ghost use Rattle.reader.specs.Refusals.{answer_from};
 ghost use Rattle.conflicts.specs.Conflicts.{conflict_answer, conflict_bytes};
 
-use reader::Answer;
+use reader::{Refusal, Refused};
 
 mod covers;
 mod rows;
 mod writing;
 
 // Entry point: writes the conflict list; refusals 1 to 9, then 18, which carries the number that would be written.
-pub fn list(base: &[u8], out: &mut [u8]) -> Answer
-    ensures { (result ≡ conflict_answer base.now (length out.old))
+pub fn list(base: &[u8], out: &mut [u8]) -> Result<u32, Refused>
+    ensures { (answer_from result ≡ conflict_answer base.now (length out.old))
         × (out.new ≡ conflict_bytes base.now out.old) }
 {
-    let refused = reader::check(base);
-    if refused != 0 {
-        return Answer {
-            refusal: refused,
-            count: 0,
-        };
-    }
+    reader::check(base)?;
     let one = &rows::contradictions(base);
     let two = &rows::overlaps(base);
     let three = &rows::holders(base);
@@ -29,8 +24,11 @@ pub fn list(base: &[u8], out: &mut [u8]) -> Answer
     let m = reader::trailer::part(base, reader::Table::Users).len() / 4;
     let count = writing::count_all(one, two, n, three, m);
     if out.len() < 3 * (count as usize) {
-        return Answer { refusal: 18, count };
+        return Err(Refused {
+            refusal: Refusal::ConflictRoom,
+            count,
+        });
     }
     writing::write_all(out, one, two, n, three, m);
-    Answer { refusal: 0, count }
+    Ok(count)
 }

@@ -3,6 +3,7 @@
 
 ghost use Rattle.std.specs.Prelude.{◌≡◌, length};
 ghost use Rattle.reader.specs.Rules.{refusal_of};
+ghost use Rattle.reader.specs.Refusals.{number_of, answer_from};
 ghost use Rattle.reader.specs.Codes.{parameter_answer};
 ghost use Rattle.report.specs.Report.{answer_of, answer_lent, ReportedOf, ReportedLent};
 ghost use Rattle.report.specs.Demand.{Demanded, DemandedLent};
@@ -13,7 +14,7 @@ ghost use Rattle.sheet.specs.Sheets.{opened, signed, withdrawn, asked};
 ghost use Rattle.sheet.specs.Form.{bytes_of, sheet_of};
 ghost use Rattle.shift.specs.Shift.{bound_answer};
 
-use reader::Answer;
+use reader::{Answer, Refusal, Refused};
 use weights::Context;
 
 // The base check: 0 or the first of refusals 1 to 9 that applies.
@@ -21,7 +22,7 @@ use weights::Context;
 pub extern "C" fn release_check(base: &[u8]) -> u32
     ensures { result ≡ refusal_of base.now }
 {
-    reader::check(base) as u32
+    number(reader::check(base))
 }
 
 // The decision on a group: 0 where it is granted, else the first of refusals 1 to 17 that applies.
@@ -38,7 +39,7 @@ pub extern "C" fn release_decide(
         permission group.now }
 {
     let at = Context { minute, day, zone };
-    decision::decide(base, permission, at, group) as u32
+    number(decision::decide(base, permission, at, group))
 }
 
 // The release report: 0, and 13 bytes a permission in out, or the first of refusals 1 to 9, 11 and 19 that applies;
@@ -79,7 +80,7 @@ pub extern "C" fn release_decide_by(
         permission group.now }
 {
     let at = Context { minute, day, zone };
-    decision::decide_by(base, permission, at, list, group) as u32
+    number(decision::decide_by(base, permission, at, list, group))
 }
 
 // The release report by a resolution list: as without one, but by the decision with that list, and with refusal 22 of
@@ -121,10 +122,16 @@ pub extern "C" fn release_sheet_open(base: &[u8], permission: u32, sheet: &mut [
     ensures { (result ≡ (opened base.now permission).refusal) ×
         (sheet.new ≡ bytes_of (opened base.now permission).sheet) }
 {
-    let outcome = sheet::open(base, permission);
-    let given = outcome.sheet;
-    sheet::form::write(given, sheet);
-    outcome.refusal as u32
+    match sheet::open(base, permission) {
+        Ok(opened) => {
+            sheet::form::write(opened, sheet);
+            0
+        }
+        Err(unopened) => {
+            sheet::form::write(unopened.sheet, sheet);
+            unopened.refusal.number() as u32
+        }
+    }
 }
 
 // Signing a sheet: 0, and the sheet with the entry, or the first of refusals 1 to 9, 13, 14, 15 and 20 that applies,
@@ -136,13 +143,13 @@ pub extern "C" fn release_sheet_sign(base: &[u8], user: u32, role: u32, sheet: &
     ensures kept { (result ≡ 0 → ⊥) → sheet.new ≡ sheet.old }
 {
     let s = sheet::form::read(sheet);
-    let outcome = sheet::sign(base, s, user, role);
-    if outcome.refusal != 0 {
-        return outcome.refusal as u32;
+    match sheet::sign(base, s, user, role) {
+        Ok(signed) => {
+            sheet::form::write(signed, sheet);
+            0
+        }
+        Err(refusal) => refusal.number() as u32,
     }
-    let given = outcome.sheet;
-    sheet::form::write(given, sheet);
-    0
 }
 
 // Withdrawing a user from a sheet: 0, and the sheet with the other entries alone, every byte behind them 0, or 23 where
@@ -154,13 +161,13 @@ pub extern "C" fn release_sheet_withdraw(user: u32, sheet: &mut [u8; 14]) -> u32
     ensures kept { (result ≡ 0 → ⊥) → sheet.new ≡ sheet.old }
 {
     let s = sheet::form::read(sheet);
-    let outcome = sheet::withdraw(s, user);
-    if outcome.refusal != 0 {
-        return outcome.refusal as u32;
+    match sheet::withdraw(s, user) {
+        Ok(left) => {
+            sheet::form::write(left, sheet);
+            0
+        }
+        Err(refusal) => refusal.number() as u32,
     }
-    let given = outcome.sheet;
-    sheet::form::write(given, sheet);
-    0
 }
 
 // Asking a sheet: the decision for its permission and the entries that it holds.
@@ -177,7 +184,7 @@ pub extern "C" fn release_sheet_ask(
 {
     let at = Context { minute, day, zone };
     let s = sheet::form::read(sheet);
-    sheet::ask(base, s, at) as u32
+    number(sheet::ask(base, s, at))
 }
 
 // How much one weight can shift: 0, or the first of refusals 1 to 9, 12 to 15 and 21 that applies; plus 256 times the
@@ -198,9 +205,20 @@ pub extern "C" fn release_parameter(parameter: u32, roles: u32) -> u64
     pack(reader::codes::check_parameter(parameter, roles))
 }
 
-// An answer as one number.
-fn pack(answer: Answer) -> u64
-    ensures { result ≡ packed answer }
+// 0, or the number of the refusal.
+fn number(given: Result<(), Refusal>) -> u32
+    ensures { result ≡ number_of given }
 {
+    match given {
+        Ok(_) => 0,
+        Err(refusal) => refusal.number() as u32,
+    }
+}
+
+// An answer as one number.
+fn pack(given: Result<u32, Refused>) -> u64
+    ensures { result ≡ packed (answer_from given) }
+{
+    let answer = Answer::from(given);
     answer.refusal as u64 + 256 * (answer.count as u64)
 }

@@ -25,12 +25,13 @@ fn put_report(out: &mut [u8], base: &[u8], at: Context) -> usize
 {
     // 13 bytes for each of 16 permissions
     let mut parts = [0u8; 208];
-    let answer = report::report(base, at, &mut parts);
-    if answer.refusal != 0 {
-        return text::put_count(out, 0, b"refused ", answer.refusal);
+    match report::report(base, at, &mut parts) {
+        Ok(count) => {
+            let next = text::put_lines(out, &parts, reader::trailer::permission_count(base));
+            text::put_count(out, next, b"releasable ", count as u8)
+        }
+        Err(refused) => text::put_count(out, 0, b"refused ", refused.refusal.number()),
     }
-    let next = text::put_lines(out, &parts, reader::trailer::permission_count(base));
-    text::put_count(out, next, b"releasable ", answer.count as u8)
 }
 
 // The text for an input, in the first bytes of `out`; how many.

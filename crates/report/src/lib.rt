@@ -4,6 +4,7 @@
 ghost use Rattle.std.specs.Prelude.{◌≡◌, false, ◌*◌, ◌≤◌, length};
 ghost use Rattle.reader.specs.Tables.{permission_count};
 ghost use Rattle.reader.specs.Rules.{refusal_of};
+ghost use Rattle.reader.specs.Refusals.{answer_from, number_of};
 ghost use Rattle.weights.specs.Contexts.{out_of_range};
 ghost use Rattle.weights.specs.Setting.{rules_of, FixedBy};
 ghost use Rattle.decision.specs.Decision.{decision_by};
@@ -11,7 +12,7 @@ ghost use Rattle.report.specs.Report.{fitting, releasable, ReportedOf, ReportedL
 ghost use Rattle.report.specs.Parts.{Filled};
 ghost use Rattle.report.specs.Demand.{Demanded, DemandedLent};
 
-use reader::{Answer, bytes};
+use reader::{Refusal, Refused, bytes};
 use weights::{Context, Fixed};
 
 mod parts;
@@ -19,65 +20,39 @@ mod parts;
 // Entry point: writes for each permission the number k of approvers, k entries by rising user, and 255 in every byte
 // left of 13; later bytes keep their contents. The count is the number of permissions with k above 0. Refusals 1 to 9,
 // 11 and 19 carry 0 and write nothing. It needs about 30,000 bytes of stack.
-pub fn report(base: &[u8], at: Context, out: &mut [u8]) -> Answer
-    ensures promise { ReportedOf base.now at out.old out.new result }
-    ensures demand { Demanded base.now at out.old out.new result }
+pub fn report(base: &[u8], at: Context, out: &mut [u8]) -> Result<u32, Refused>
+    ensures promise { ReportedOf base.now at out.old out.new (answer_from result) }
+    ensures demand { Demanded base.now at out.old out.new (answer_from result) }
 {
-    let refused = reader::check(base);
-    if refused != 0 {
-        return Answer {
-            refusal: refused,
-            count: 0,
-        };
-    }
-    let unfit = fitting_refusal(base, at, out.len());
-    if unfit != 0 {
-        return Answer {
-            refusal: unfit,
-            count: 0,
-        };
-    }
+    reader::check(base)?;
+    fitting_refusal(base, at, out.len())?;
     let s = weights::setting(base, at);
-    let count = fill(base, s, out);
-    Answer { refusal: 0, count }
+    Ok(fill(base, s, out))
 }
 
 // Entry point: the same by a resolution list, of the decision that `decide_by` gives with that list; 22 comes after 9.
-pub fn report_by(base: &[u8], at: Context, list: &[u8], out: &mut [u8]) -> Answer
-    ensures promise { ReportedLent list.now base.now at out.old out.new result }
-    ensures demand { DemandedLent list.now base.now at out.old out.new result }
+pub fn report_by(base: &[u8], at: Context, list: &[u8], out: &mut [u8]) -> Result<u32, Refused>
+    ensures promise { ReportedLent list.now base.now at out.old out.new (answer_from result) }
+    ensures demand { DemandedLent list.now base.now at out.old out.new (answer_from result) }
 {
-    let refused = resolution::lent_refusal(base, list);
-    if refused != 0 {
-        return Answer {
-            refusal: refused,
-            count: 0,
-        };
-    }
-    let unfit = fitting_refusal(base, at, out.len());
-    if unfit != 0 {
-        return Answer {
-            refusal: unfit,
-            count: 0,
-        };
-    }
+    resolution::lent_refusal(base, list)?;
+    fitting_refusal(base, at, out.len())?;
     let s = weights::setting_by(base, at, list);
-    let count = fill(base, s, out);
-    Answer { refusal: 0, count }
+    Ok(fill(base, s, out))
 }
 
-// Refusals 11 and 19 for an accepted base and a buffer of n bytes, or 0.
-fn fitting_refusal(base: &[u8], at: Context, n: usize) -> u8
+// Refusals 11 and 19 for an accepted base and a buffer of n bytes.
+fn fitting_refusal(base: &[u8], at: Context, n: usize) -> Result<(), Refusal>
     requires { refusal_of base.now ≡ 0 }
-    ensures { result ≡ fitting base.now at n }
+    ensures { number_of result ≡ fitting base.now at n }
 {
     if weights::contexts::out_of_range(at) {
-        return 11;
+        return Err(Refusal::Context);
     }
     if n < 13 * bytes::wide(reader::trailer::permission_count(base)) {
-        return 19;
+        return Err(Refusal::ReportRoom);
     }
-    0
+    Ok(())
 }
 
 // Writes each permission's part, by a setting of an accepted base; the number of permissions that have a group.

@@ -2,9 +2,10 @@
 #![tactic(auto)]
 
 ghost use Rattle.std.specs.Prelude.{◌≡◌, ◌+◌, ◌*◌, ◌≤◌, ◌<◌, length, take};
+ghost use Rattle.reader.specs.Refusals.{number_of};
 ghost use Rattle.resolution.specs.Resolution.{rule_before, goes_before, repeated, list_refused, lent};
 
-use reader::bytes;
+use reader::{Refusal, bytes};
 
 // Byte k of the list stands before it too.
 fn is_repeated(list: &[u8], k: usize) -> bool
@@ -40,18 +41,15 @@ fn list_refused(list: &[u8]) -> bool
     false
 }
 
-// Inner: refusals 1 to 9 of the base and 22 of the list, or 0.
-pub fn lent_refusal(base: &[u8], list: &[u8]) -> u8
-    ensures { result ≡ lent list.now base.now 0 }
+// Inner: refusals 1 to 9 of the base and 22 of the list.
+pub fn lent_refusal(base: &[u8], list: &[u8]) -> Result<(), Refusal>
+    ensures { number_of result ≡ lent list.now base.now 0 }
 {
-    let refused = reader::check(base);
-    if refused != 0 {
-        return refused;
-    }
+    reader::check(base)?;
     if list_refused(list) {
-        return 22;
+        return Err(Refusal::Rules);
     }
-    0
+    Ok(())
 }
 
 // Inner: the bytes of a list of at most three, from the front of an array.

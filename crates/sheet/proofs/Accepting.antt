@@ -8,7 +8,7 @@ use borrow.Author.Tests.{ltb-true, lt-ltb, eqb-true, eq-eqb, not-true}
 use lib.ListN.{length, length-append}
 use lib.Dec.{eqb}
 use Rattle.folds.proofs.Bools.{and_left, and_right, and_both, same_test}
-use Rattle.sheet.specs.declared.Outcome.{Outcome}
+use Rattle.sheet.specs.Sheets.{Outcome}
 use Rattle.sheet.specs.Sheets.{signed}
 use Rattle.sheet.specs.Signings.{Signing, signed_by, acceptable, entries_of, sheet_with}
 use Rattle.sheet.proofs.Passing.{Passes, sign_passes, passes_sign}

@@ -5,7 +5,7 @@ use mathlib.Core.List.{List, [], ◌∷◌}
 use native.Mathlib.Omega.{arith}
 use lib.ListN.{length}
 use Rattle.sheet.specs.declared.Sheet.{Sheet}
-use Rattle.sheet.specs.declared.Outcome.{Outcome}
+use Rattle.sheet.specs.Sheets.{Outcome}
 use Rattle.sheet.specs.Sheets.{signed}
 use Rattle.sheet.specs.Form.{bytes_of, sheet_of}
 use Rattle.sheet.proofs.Passing.{signed_refused}

@@ -11,7 +11,7 @@ use Rattle.reader.specs.Rules.{refusal_of}
 use Rattle.weights.specs.Acting.{may_act}
 use Rattle.decision.specs.Groups.{entry_count}
 use Rattle.sheet.specs.declared.Sheet.{Sheet}
-use Rattle.sheet.specs.declared.Outcome.{Outcome}
+use Rattle.sheet.specs.Sheets.{Outcome}
 use Rattle.sheet.specs.Sheets.{held_on, stands_in, sign_refusal, with_entry, signed}
 
 -- none of 1 to 9, 13, 14, 15 and 20 applies

@@ -8,7 +8,7 @@ use lib.ListN.{length}
 use lib.Dec.{eqb}
 use Rattle.folds.proofs.Bools.{met_or_not}
 use Rattle.sheet.specs.declared.Sheet.{Sheet}
-use Rattle.sheet.specs.declared.Outcome.{Outcome}
+use Rattle.sheet.specs.Sheets.{Outcome}
 use Rattle.sheet.specs.Sheets.{held_on, holding, stands_in, is_another, entries_without, withdrawn}
 use Rattle.sheet.specs.Signings.{Signing, signed_by, entries_of, sheet_with}
 use Rattle.sheet.proofs.Standing.{stands_signed, held_with}

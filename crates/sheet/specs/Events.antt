@@ -3,7 +3,7 @@ use Rattle.std.specs.Prelude.{ℕ, ◌*◌, ◌<◌, ◌≤◌, Bool, false, ◌
 use Rattle.std.specs.Prelude.{map, length, get_or, eqb}
 use Rattle.decision.specs.Groups.{entry_count, entry_user}
 use Rattle.sheet.specs.declared.Sheet.{Sheet}
-use Rattle.sheet.specs.declared.Outcome.{Outcome}
+use Rattle.sheet.specs.Sheets.{Outcome}
 use Rattle.sheet.specs.Sheets.{held_on, opened, signed, withdrawn}
 use Rattle.sheet.specs.Signings.{Signing, signed_by, acceptable}
 

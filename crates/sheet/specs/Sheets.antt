@@ -10,7 +10,11 @@ use Rattle.weights.specs.Acting.{may_act}
 use Rattle.decision.specs.Groups.{entry_count, entry_user, entry_role, unknown}
 use Rattle.decision.specs.Decision.{decision_of}
 use Rattle.sheet.specs.declared.Sheet.{Sheet}
-use Rattle.sheet.specs.declared.Outcome.{Outcome}
+
+-- what opening, signing and withdrawing answer, 0 or a refusal, and the sheet afterwards
+pub record Outcome : Type 0 where
+  pub refusal : ℕ
+  pub sheet : Sheet
 
 -- how many entries a sheet that claims n holds: six where it claims over six
 abbrev pub held_count : ℕ → ℕ

@@ -2,9 +2,12 @@
 ghost use Rattle.std.specs.Prelude.{◌≡◌, not, ◌*◌, length, take};
 ghost use Rattle.reader.specs.Tables.{role_count, user_count};
 ghost use Rattle.reader.specs.Rules.{refusal_of};
+ghost use Rattle.reader.specs.Refusals.{number_of};
 ghost use Rattle.weights.specs.Acting.{may_act};
 ghost use Rattle.decision.specs.Groups.{unknown};
 ghost use Rattle.sheet.specs.Sheets.{held_count, stands_in, sign_refusal};
+
+use reader::Refusal;
 
 // Inner: the bytes of the entries held, of a sheet that claims this many.
 pub fn held(entries: &[u8; 12], count: u8) -> &[u8]
@@ -49,25 +52,22 @@ fn is_ineligible(base: &[u8], user: u32, role: u32) -> bool
     !weights::acting::may_act(base, juniors, user as usize, role as usize)
 }
 
-// Inner: the first of refusals 1 to 9, 13 to 15 and 20 of a signing that applies, or 0.
-pub fn sign_refusal(base: &[u8], held: &[u8], user: u32, role: u32) -> u8
-    ensures { result ≡ sign_refusal base.now held.now user role }
+// Inner: refusals 1 to 9, 13 to 15 and 20 of a signing.
+pub fn sign_refusal(base: &[u8], held: &[u8], user: u32, role: u32) -> Result<(), Refusal>
+    ensures { number_of result ≡ sign_refusal base.now held.now user role }
 {
-    let refused = reader::check(base);
-    if refused != 0 {
-        return refused;
-    }
+    reader::check(base)?;
     if is_unknown(base, user, role) {
-        return 13;
+        return Err(Refusal::Unknown);
     }
     if stands_in(held, user) {
-        return 14;
+        return Err(Refusal::Twice);
     }
     if is_ineligible(base, user, role) {
-        return 15;
+        return Err(Refusal::Ineligible);
     }
     if 6 <= held.len() / 2 {
-        return 20;
+        return Err(Refusal::FullSheet);
     }
-    0
+    Ok(())
 }

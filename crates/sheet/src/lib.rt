@@ -3,9 +3,12 @@
 #![tactic(auto)]
 
 ghost use Rattle.std.specs.Prelude.{◌≡◌, ◌<◌};
+ghost use Rattle.reader.specs.Refusals.{number_of};
+ghost use Rattle.sheet.specs.Outcomes.{unopened, opening_outcome, outcome_of};
 ghost use Rattle.sheet.specs.Sheets.{unsigned, opened, signed, asked, with_entry};
 ghost use Rattle.sheet.specs.Sheets.{held_on, holding, entries_without, withdrawn};
 
+use reader::Refusal;
 use weights::Context;
 
 pub mod entries;
@@ -19,72 +22,59 @@ pub struct Sheet {
     pub entries: [u8; 12],
 }
 
-// What opening, signing and withdrawing answer, 0 or a refusal, and the sheet afterwards.
+// An opening that is refused, with the sheet that it gives all the same: the unsigned one for permission 255.
 #[derive(Clone, Copy)]
-pub struct Outcome {
-    pub refusal: u8,
+pub struct Unopened {
+    pub refusal: Refusal,
     pub sheet: Sheet,
 }
 
+impl From<Refusal> for Unopened {
+    ghost from_gives = { λ r given. given ≡ unopened r };
+
+    fn from(refusal: Refusal) -> Unopened {
+        Unopened {
+            refusal,
+            sheet: unsigned_for(255),
+        }
+    }
+}
+
 // Entry point: the unsigned sheet for the permission; of refusals 1 to 10, that for permission 255.
-pub fn open(base: &[u8], permission: u32) -> Outcome
-    ensures { result ≡ opened base.now permission }
+pub fn open(base: &[u8], permission: u32) -> Result<Sheet, Unopened>
+    ensures { opening_outcome result ≡ opened base.now permission }
 {
-    let refused = reader::check(base);
-    if refused != 0 {
-        return Outcome {
-            refusal: refused,
-            sheet: unsigned_for(255),
-        };
-    }
+    reader::check(base)?;
     if reader::trailer::permission_count(base) as u32 <= permission {
-        return Outcome {
-            refusal: 10,
-            sheet: unsigned_for(255),
-        };
+        return Err(Refusal::Permission.into());
     }
-    Outcome {
-        refusal: 0,
-        sheet: unsigned_for(permission as u8),
-    }
+    Ok(unsigned_for(permission as u8))
 }
 
 // Entry point: the sheet with the entry behind those that it holds; of refusals 1 to 9, 13 to 15 and 20, the sheet as
 // it was.
-pub fn sign(base: &[u8], s: Sheet, user: u32, role: u32) -> Outcome
-    ensures { result ≡ signed base.now s user role }
+pub fn sign(base: &[u8], s: Sheet, user: u32, role: u32) -> Result<Sheet, Refusal>
+    ensures { outcome_of s result ≡ signed base.now s user role }
 {
     let claimed = s.entries;
-    let refused = entries::sign_refusal(base, entries::held(&claimed, s.count), user, role);
-    if refused != 0 {
-        return Outcome {
-            refusal: refused,
-            sheet: s,
-        };
-    }
-    Outcome {
-        refusal: 0,
-        sheet: with_entry(s, user as u8, role as u8),
-    }
+    entries::sign_refusal(base, entries::held(&claimed, s.count), user, role)?;
+    Ok(with_entry(s, user as u8, role as u8))
 }
 
 // Entry point: the sheet without the user's entries; of refusal 23, the sheet as it was.
-pub fn withdraw(sheet: Sheet, user: u32) -> Outcome
-    ensures { result ≡ withdrawn sheet user }
+pub fn withdraw(sheet: Sheet, user: u32) -> Result<Sheet, Refusal>
+    ensures { outcome_of sheet result ≡ withdrawn sheet user }
 {
     let claimed = sheet.entries;
     if !entries::stands_in(entries::held(&claimed, sheet.count), user) {
-        return Outcome { refusal: 23, sheet };
+        return Err(Refusal::NotSigned);
     }
-    Outcome {
-        refusal: 0,
-        sheet: without(sheet, user),
-    }
+    Ok(without(sheet, user))
 }
 
 // Entry point: the decision for the sheet's permission and the entries that it holds.
-pub fn ask(base: &[u8], s: Sheet, at: Context) -> u8
-    ensures { result ≡ asked base.now s at }
+pub fn ask(base: &[u8], s: Sheet, at: Context) -> Result<(), Refusal>
+    ensures { number_of result ≡ asked base.now s at }
 {
     let claimed = s.entries;
     decision::decide(

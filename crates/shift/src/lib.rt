@@ -4,41 +4,26 @@
 ghost use Rattle.std.specs.Prelude.{◌≡◌, ℕ, ◌*◌, ◌≤◌, ◌<◌, length};
 ghost use Rattle.reader.specs.Tables.{policies, record_count};
 ghost use Rattle.reader.specs.Fields.{policy_role, policy_weight};
+ghost use Rattle.reader.specs.Refusals.{answer_from};
 ghost use Rattle.decision.specs.Groups.{entry_count, entry_role};
 ghost use Rattle.shift.specs.Shift.{distance, change_refused, bound_answer};
 ghost use Rattle.shift.specs.Counting.{at_or_above, entries_at_or_above};
 
-use reader::Answer;
+use reader::{Refusal, Refused};
 
 // Entry point: by how much, at most, the group's sum of weights shifts where the policy gets this weight; refusals 1 to
 // 9, 12 to 15, then 21. A refusal carries 0.
-pub fn bound(base: &[u8], policy: u32, weight: u32, group: &[u8]) -> Answer
-    ensures { result ≡ bound_answer base.now policy weight group.now }
+pub fn bound(base: &[u8], policy: u32, weight: u32, group: &[u8]) -> Result<u32, Refused>
+    ensures { answer_from result ≡ bound_answer base.now policy weight group.now }
 {
-    let refused = reader::check(base);
-    if refused != 0 {
-        return Answer {
-            refusal: refused,
-            count: 0,
-        };
-    }
+    reader::check(base)?;
     let juniors = weights::juniors_of_base(base);
-    let members = decision::members_refusal(base, juniors, group);
-    if members != 0 {
-        return Answer {
-            refusal: members,
-            count: 0,
-        };
-    }
+    decision::members_refusal(base, juniors, group)?;
     let a = reader::trailer::part(base, reader::Table::Policies);
     if change_refused(a.len() / 8, policy, weight) {
-        return Answer {
-            refusal: 21,
-            count: 0,
-        };
+        return Err(Refusal::Change.into());
     }
-    let count = bound_of(a, juniors, policy as usize, weight as u8, group);
-    Answer { refusal: 0, count }
+    Ok(bound_of(a, juniors, policy as usize, weight as u8, group))
 }
 
 // Refusal 21, with so many policies.

@@ -47,7 +47,7 @@ pub returns-then-refused-ne0 : goal.returns-then-refused-ne0
 returns-then-refused-ne0 c = refused c.args.base.now c.args.out.now c.check-refused.ensures c.if-refused-ne0.true
 
 pub part-requires : goal.part-requires
-part-requires c = (accepted_frame _ (sym c.check-refused.ensures ∙ c.if-refused-ne0.false), lit< tt)
+part-requires c = accepted_frame _ (sym c.check-refused.ensures ∙ c.if-refused-ne0.false)
 
 pub part-requires-2 : goal.part-requires-2
 part-requires-2 c = (accepted_frame _ (sym c.check-refused.ensures ∙ c.if-refused-ne0.false), lit< tt)

@@ -4,29 +4,30 @@ use mathlib.Core.Path.{sym, ◌∙◌}
 use native.Mathlib.Nat.{lt_of_lt_of_le}
 use Rattle.reader.proofs.Frame.{permissions_le}
 use Rattle.reader.proofs.Accepted.{accepted_frame}
+use Rattle.reader.proofs.Results.{refusal_pos, handed_on}
 use Rattle.decision.proofs.Heads.{asking_there, base_refused, asking_refused, group_decided}
 use Rattle.decision.proofs.decide.Goals as goal
 
-pub returns-then-refused-ne0 : goal.returns-then-refused-ne0
-returns-then-refused-ne0 c =
-    base_refused c.args.base.now c.args.at c.args.permission [] c.args.group.now c.check-refused.ensures
-    c.if-refused-ne0.true
+pub returns-in_err-check : goal.returns-in_err-check
+returns-in_err-check c =
+    handed_on _ _ c.from_residual.ensures.1
+    ∙ base_refused c.args.base.now c.args.at c.args.permission [] c.args.group.now c.in_err-check.ensures
+    (refusal_pos _)
 
-pub returns-then-asked-ne0 : goal.returns-then-asked-ne0
-returns-then-asked-ne0 c =
-    asking_refused c.args.base.now c.args.at c.args.permission [] c.args.group.now
-    (sym c.check-refused.ensures ∙ c.if-refused-ne0.false) c.asking_refusal-asked.ensures c.if-asked-ne0.true
+pub returns-in_err-asking_refusal : goal.returns-in_err-asking_refusal
+returns-in_err-asking_refusal c =
+    handed_on _ _ c.from_residual-in_err-asking_refusal.ensures.1
+    ∙ asking_refused c.args.base.now c.args.at c.args.permission [] c.args.group.now (sym c.in_ok-check.ensures)
+    c.in_err-asking_refusal.ensures (refusal_pos _)
 
 pub overflow_cast-permission : goal.overflow_cast-permission
 overflow_cast-permission c =
-    let there = asking_there _ c.args.at _ (sym c.asking_refusal-asked.ensures ∙ c.if-asked-ne0.false) in
-    let ok = sym c.check-refused.ensures ∙ c.if-refused-ne0.false in
-    let few = lt_of_lt_of_le there (permissions_le _ (accepted_frame _ ok)) in
+    let there = asking_there _ c.args.at _ (sym c.in_ok-asking_refusal.ensures) in
+    let few = lt_of_lt_of_le there (permissions_le _ (accepted_frame _ (sym c.in_ok-check.ensures))) in
     omega arith
 
 pub returns : goal.returns
 returns c =
     let (same, listed, _) = c.setting-s.ensures in
     group_decided c.args.base.now c.args.at c.args.permission [] c.args.group.now
-    (sym c.check-refused.ensures ∙ c.if-refused-ne0.false) (sym c.asking_refusal-asked.ensures ∙ c.if-asked-ne0.false)
-    same listed c.decide_checked.ensures
+    (sym c.in_ok-check.ensures) (sym c.in_ok-asking_refusal.ensures) same listed c.decide_checked.ensures

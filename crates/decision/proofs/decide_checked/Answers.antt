@@ -8,6 +8,7 @@ use Rattle.reader.specs.Tables.{clauses, role_count, table_of, user_count}
 use Rattle.reader.specs.Rules.{refusal_of}
 use Rattle.reader.proofs.Frame.{roles_range, permissions_le}
 use Rattle.reader.proofs.Accepted.{accepted, clause_fine}
+use Rattle.reader.proofs.Results.{refusal_pos, handed_on}
 use Rattle.weights.specs.declared.Context.{Context}
 use Rattle.weights.specs.Weights.{weight}
 use Rattle.weights.specs.Setting.{AreWeights}
@@ -27,9 +28,8 @@ record Known (b g : List ℕ) : Type 0 where
   few : length g ≤ 12
   low : (i : ℕ) → i < entry_count g → entry_role g i < 8
 
-known : {b g : List ℕ} {n : ℕ} → refusal_of b ≡ 0 → n ≡ members_of b g → n ≡ 0 → Known b g
-known {b} {g} ok is zero =
-    let none : members_of b g ≡ 0 = sym is ∙ zero in
+known : {b g : List ℕ} → refusal_of b ≡ 0 → members_of b g ≡ 0 → Known b g
+known {b} {g} ok none =
     let m : Members (user_count b) (role_count b) (may_act b) g = members_of_lem _ _ _ g none in
     record {
       none = none;
@@ -75,8 +75,9 @@ module _ (rules b : List ℕ) (at : Context) (p : ℕ) (g : List ℕ) where
           let weighed = sum_weights _ _ _ _ _ g are k.low in
           sym (is ∙ condition_same rules b at p g _ _ _ _ table count (total ∙ weighed) roles)
 
-pub returns-then-members-ne0 : goal.returns-then-members-ne0
-returns-then-members-ne0 c = by_members _ _ _ _ _ c.members_refusal-members.ensures c.if-members-ne0.true
+pub returns-in_err-members_refusal : goal.returns-in_err-members_refusal
+returns-in_err-members_refusal c =
+    handed_on _ _ c.from_residual.ensures.1 ∙ by_members _ _ _ _ _ c.in_err-members_refusal.ensures (refusal_pos _)
 
 pub choose-requires : goal.choose-requires
 choose-requires c = (c.requires.0, c.requires.2, vacant, vacant)
@@ -89,28 +90,28 @@ role_weights-w-requires c = (
 )
 
 pub some_weightless-requires : goal.some_weightless-requires
-some_weightless-requires c = (known c.requires.0 c.members_refusal-members.ensures c.if-members-ne0.false).low
+some_weightless-requires c = (known c.requires.0 (sym c.in_ok-members_refusal.ensures)).low
 
 pub returns-then-some_weightless : goal.returns-then-some_weightless
 returns-then-some_weightless c =
-    let k = known c.requires.0 c.members_refusal-members.ensures c.if-members-ne0.false in
+    let k = known c.requires.0 (sym c.in_ok-members_refusal.ensures) in
     let are = c.role_weights-w.ensures _ _ _ c.requires.0 c.choose.ensures c.requires.2.juniors in
     by_16 _ _ _ _ _ k (weightless_is _ _ _ _ _ k are c.if-some_weightless.ensures)
 
 pub part-k-requires : goal.part-k-requires
-part-k-requires c = ((accepted _ c.requires.0).frame, search rules)
+part-k-requires c = (accepted _ c.requires.0).frame
 
 pub entry_count-n-requires : goal.entry_count-n-requires
-entry_count-n-requires c = (known c.requires.0 c.members_refusal-members.ensures c.if-members-ne0.false).few
+entry_count-n-requires c = (known c.requires.0 (sym c.in_ok-members_refusal.ensures)).few
 
 pub sum_of-requires : goal.sum_of-requires
 sum_of-requires c =
-    let k = known c.requires.0 c.members_refusal-members.ensures c.if-members-ne0.false in
+    let k = known c.requires.0 (sym c.in_ok-members_refusal.ensures) in
     let are = c.role_weights-w.ensures _ _ _ c.requires.0 c.choose.ensures c.requires.2.juniors in
     (k.few, k.low, weights_le _ c.requires.0 _ _ _ _ are)
 
 pub roles_of-requires : goal.roles_of-requires
-roles_of-requires c = (known c.requires.0 c.members_refusal-members.ensures c.if-members-ne0.false).low
+roles_of-requires c = (known c.requires.0 (sym c.in_ok-members_refusal.ensures)).low
 
 pub permission_holds-requires : goal.permission_holds-requires
 permission_holds-requires c =
@@ -118,7 +119,7 @@ permission_holds-requires c =
 
 pub returns-then-permission_holds : goal.returns-then-permission_holds
 returns-then-permission_holds c =
-    let k = known c.requires.0 c.members_refusal-members.ensures c.if-members-ne0.false in
+    let k = known c.requires.0 (sym c.in_ok-members_refusal.ensures) in
     let are = c.role_weights-w.ensures _ _ _ c.requires.0 c.choose.ensures c.requires.2.juniors in
     by_0 _ _ _ _ _ k (weightless_is _ _ _ _ _ k are c.if-some_weightless.ensures)
     (holds_is _ _ _ _ _ k are c.if-permission_holds.ensures c.part-k.ensures c.entry_count-n.ensures
@@ -126,7 +127,7 @@ returns-then-permission_holds c =
 
 pub returns : goal.returns
 returns c =
-    let k = known c.requires.0 c.members_refusal-members.ensures c.if-members-ne0.false in
+    let k = known c.requires.0 (sym c.in_ok-members_refusal.ensures) in
     let are = c.role_weights-w.ensures _ _ _ c.requires.0 c.choose.ensures c.requires.2.juniors in
     by_17 _ _ _ _ _ k (weightless_is _ _ _ _ _ k are c.if-some_weightless.ensures)
     (holds_is _ _ _ _ _ k are c.if-permission_holds.ensures c.part-k.ensures c.entry_count-n.ensures

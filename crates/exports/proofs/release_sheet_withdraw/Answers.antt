@@ -1,7 +1,7 @@
 -- What withdrawing from the sheet that the bytes are gives; refused, nothing is written.
 use Rattle.std.proofs.Common.{ℕ, ◌≡◌, ap, ◌∙◌}
 use Rattle.sheet.specs.declared.Sheet.{Sheet}
-use Rattle.sheet.specs.declared.Outcome.{Outcome}
+use Rattle.sheet.specs.Sheets.{Outcome}
 use Rattle.sheet.specs.Sheets.{withdrawn}
 use Rattle.sheet.specs.Form.{sheet_of}
 use Rattle.sheet.proofs.Withdrawing.{withdrawn_same}

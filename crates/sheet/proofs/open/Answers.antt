@@ -5,7 +5,7 @@ use Rattle.reader.specs.Tables.{permission_count}
 use Rattle.reader.specs.Rules.{refusal_of}
 use Rattle.reader.proofs.Accepted.{accepted_frame}
 use Rattle.sheet.specs.declared.Sheet.{Sheet}
-use Rattle.sheet.specs.declared.Outcome.{Outcome}
+use Rattle.sheet.specs.Sheets.{Outcome}
 use Rattle.sheet.specs.Sheets.{unsigned, open_refusal, opened_for, opened}
 use Rattle.sheet.proofs.open.Goals as goal
 

@@ -96,7 +96,7 @@ returns-then-members-ne0 c =
     c.if-members-ne0.true
 
 pub part-a-requires : goal.part-a-requires
-part-a-requires c = (accepted_frame _ (sym c.check-refused.ensures ∙ c.if-refused-ne0.false), omega arith)
+part-a-requires c = accepted_frame _ (sym c.check-refused.ensures ∙ c.if-refused-ne0.false)
 
 pub returns-then-change_refused : goal.returns-then-change_refused
 returns-then-change_refused c =

@@ -29,7 +29,7 @@ all_listed : (n : ℕ) (rules : List ℕ) → take (n - 0) rules ≡ take n rule
 all_listed n rules = let e : n - 0 ≡ n = omega arith in rw e
 
 pub part-a-requires : goal.part-a-requires
-part-a-requires c = ((accepted _ c.requires.0).frame, omega arith)
+part-a-requires c = (accepted _ c.requires.0).frame
 
 pub choose_first-requires : goal.choose_first-requires
 choose_first-requires c =

@@ -6,7 +6,7 @@ use Rattle.weights.proofs.Chains.{hierarchy_wider}
 use Rattle.weights.proofs.juniors_of_base.Goals as goal
 
 pub part-requires : goal.part-requires
-part-requires c = ((accepted _ c.requires).frame, omega arith)
+part-requires c = (accepted _ c.requires).frame
 
 pub juniors-requires : goal.juniors-requires
 juniors-requires c =

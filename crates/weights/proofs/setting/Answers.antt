@@ -4,7 +4,7 @@ use Rattle.reader.proofs.Accepted.{accepted}
 use Rattle.weights.proofs.setting.Goals as goal
 
 pub part-requires : goal.part-requires
-part-requires c = ((accepted _ c.requires).frame, omega arith)
+part-requires c = (accepted _ c.requires).frame
 
 pub holding-contexts-requires : goal.holding-contexts-requires
 holding-contexts-requires c = rw c.part.ensures (accepted _ c.requires).contexts

@@ -23,13 +23,13 @@ found b ok a_is c_is relations named_are are =
     contradictions_found b ok _ _ _ (rw c_is at relations) (rw a_is at named_are) (rw a_is at are)
 
 pub part-a-requires : goal.part-a-requires
-part-a-requires c = (accepted_frame _ c.requires, lit< tt)
+part-a-requires c = accepted_frame _ c.requires
 
 pub names-names-requires : goal.names-names-requires
 names-names-requires c = rw c.part-a.ensures (policies_fine _ c.requires)
 
 pub part-requires : goal.part-requires
-part-requires c = (accepted_frame _ c.requires, lit< tt)
+part-requires c = accepted_frame _ c.requires
 
 pub relations-related-requires : goal.relations-related-requires
 relations-related-requires c =

@@ -17,10 +17,10 @@ found : (b : List ℕ) {us x rows : List ℕ} {roles : ℕ} →
 found b us_is x_is roles_are are = rw (us_is, x_is, roles_are) at are
 
 pub part-users-requires : goal.part-users-requires
-part-users-requires c = (accepted_frame _ c.requires, lit< tt)
+part-users-requires c = accepted_frame _ c.requires
 
 pub part-x-requires : goal.part-x-requires
-part-x-requires c = (accepted_frame _ c.requires, lit< tt)
+part-x-requires c = accepted_frame _ c.requires
 
 pub role_count-roles-requires : goal.role_count-roles-requires
 role_count-roles-requires c = (framed _ (accepted_frame _ c.requires)).long

@@ -22,10 +22,10 @@ found b ok a_is h_is x_is covers excluded are =
     overlaps_found b ok _ _ _ (rw (a_is, h_is) at covers) (rw x_is at excluded) (rw a_is at are)
 
 pub part-a-requires : goal.part-a-requires
-part-a-requires c = (accepted_frame _ c.requires, lit< tt)
+part-a-requires c = accepted_frame _ c.requires
 
 pub part-requires : goal.part-requires
-part-requires c = (accepted_frame _ c.requires, lit< tt)
+part-requires c = accepted_frame _ c.requires
 
 pub cover_sets-covered-requires : goal.cover_sets-covered-requires
 cover_sets-covered-requires c =

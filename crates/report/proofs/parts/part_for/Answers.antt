@@ -51,7 +51,7 @@ role_weights-w-requires c =
     (p.4.own_light, p.4.inh_light, lt_of_lt_of_le p.1 few)
 
 pub part-k-requires : goal.part-k-requires
-part-k-requires c = (accepted_frame _ c.requires.0, search rules)
+part-k-requires c = accepted_frame _ c.requires.0
 
 pub role_count-requires : goal.role_count-requires
 role_count-requires c = (framed _ (accepted_frame _ c.requires.0)).long

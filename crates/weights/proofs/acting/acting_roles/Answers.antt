@@ -40,7 +40,7 @@ module _ (R : ℕ) (us juniors : List ℕ) (u set s : ℕ) (found : Found R us j
       acting_set b ok juniors are u set (λ r. rw (← us_are, ← R_is, ← end) (found r))
 
 pub part-users-requires : goal.part-users-requires
-part-users-requires c = (accepted_frame _ c.requires.0, omega arith)
+part-users-requires c = accepted_frame _ c.requires.0
 
 pub role_count-roles-requires : goal.role_count-roles-requires
 role_count-roles-requires c = (framed _ (accepted_frame _ c.requires.0)).long
