@@ -1,4 +1,5 @@
 -- What `?` hands on: a refusal's number is never 0, and stays what it was.
+use Prim.Native.Nat.{ℕ}
 use mathlib.Core.Path.{◌≡◌, ap}
 use native.Mathlib.Nat.{suc-ne-zero}
 use Rattle.std.specs.Prelude.{Result, Ok, Err}
@@ -10,7 +11,8 @@ use Rattle.reader.specs.declared.refusal.Refusal.TheVariants.{Contexts, Policies
 use Rattle.reader.specs.declared.refusal.Refusal.TheVariants.{GroupLength, Unknown, Twice, Ineligible, Weightless}
 use Rattle.reader.specs.declared.refusal.Refusal.TheVariants.{Unmet, ConflictRoom, ReportRoom, FullSheet, Change}
 use Rattle.reader.specs.declared.refusal.Refusal.TheVariants.{Rules, NotSigned}
-use Rattle.reader.specs.Refusals.{refusal_number, number_of}
+use Rattle.reader.specs.declared.refusal.Refused.{Refused}
+use Rattle.reader.specs.Refusals.{refusal_number, number_of, carrying_nothing, answer_from}
 
 pub refusal_pos : (r : Refusal) → refusal_number r ≡ 0 → ⊥
 refusal_pos BaseLength h = suc-ne-zero 0 h
@@ -47,3 +49,9 @@ handed_on r (Err e) h = ap refusal_number h
 pub not_ok : {X : Type 0} (given : Result X Refusal) → is_ok given ≡ false → number_of given ≡ 0 → ⊥
 not_ok (Ok x) h e = true≢false h
 not_ok (Err r) h e = refusal_pos r e
+
+-- a result that holds the refusal r, which carries 0
+pub carried_on : (r : Refusal) (given : Result ℕ Refused) → IsErrAnd given (λ e. e ≡ carrying_nothing r) →
+    answer_from given ≡ record { refusal = refusal_number r; count = 0 }
+carried_on r (Ok n) h = absurd h
+carried_on r (Err e) h = ap (λ (x : Refused). answer_from (Err x)) h

@@ -8,6 +8,7 @@ use lib.Dec.{ltb}
 use Rattle.folds.proofs.Bools.{met, passed, refused, unrefused, none_met}
 use Rattle.reader.specs.Tables.{permission_count}
 use Rattle.reader.specs.Rules.{refusal_of}
+use Rattle.reader.specs.declared.Answer.{Answer}
 use Rattle.weights.specs.declared.Context.{Context}
 use Rattle.weights.specs.Contexts.{out_of_range}
 use Rattle.resolution.specs.Resolution.{list_refused, lent}
@@ -81,6 +82,11 @@ module _ (decision : Deciding) (P refusal : ℕ) (out : List ℕ) where
     shown = λ z. f.shown;
     bytes = rw e f.bytes;
   }
+
+-- an answer that is this one
+pub refused_as : {decision : Deciding} {P refusal : ℕ} {out after : List ℕ} {x y : Answer} → x ≡ y →
+    Reported decision P refusal out after y → Reported decision P refusal out after x
+refused_as e reported = rw e reported
 
 -- by the context and the rules that a setting holds
 pub reported_by : (rules b : List ℕ) (at : Context) (P refusal : ℕ) (out : List ℕ)

@@ -8,6 +8,7 @@ use Rattle.reader.specs.Tables.{users, policies, table_of}
 use Rattle.reader.specs.Rules.{refusal_of}
 use Rattle.reader.specs.declared.Answer.{Answer}
 use Rattle.reader.proofs.Accepted.{accepted_frame}
+use Rattle.reader.proofs.Results.{refusal_pos, carried_on}
 use Rattle.conflicts.specs.Conflicts.{conflicts, conflict_count, too_short, conflict_answer, conflict_bytes}
 use Rattle.conflicts.specs.Rows.{Contradictions, Overlaps, Holders, all_records}
 use Rattle.conflicts.proofs.Tables.{few_policies, few_users}
@@ -43,23 +44,25 @@ all_found : (b : List ℕ) {one two three p u : List ℕ} → refusal_of b ≡ 0
     all_records one two (length p / 8) three (length u / 4) ≡ conflicts b
 all_found b ok first second third p_is u_is = rw (p_is, u_is) (found_list b _ _ _ ok first second third)
 
-pub returns-then-refused-ne0 : goal.returns-then-refused-ne0
-returns-then-refused-ne0 c = refused c.args.base.now c.args.out.now c.check-refused.ensures c.if-refused-ne0.true
+pub returns-in_err-check : goal.returns-in_err-check
+returns-in_err-check c =
+    let (answer_is, kept) = refused c.args.base.now c.args.out.now c.in_err-check.ensures (refusal_pos _) in
+    (carried_on _ _ c.from_residual.ensures.1 ∙ answer_is, kept)
 
 pub part-requires : goal.part-requires
-part-requires c = accepted_frame _ (sym c.check-refused.ensures ∙ c.if-refused-ne0.false)
+part-requires c = accepted_frame _ (sym c.in_ok-check.ensures)
 
 pub part-requires-2 : goal.part-requires-2
-part-requires-2 c = (accepted_frame _ (sym c.check-refused.ensures ∙ c.if-refused-ne0.false), lit< tt)
+part-requires-2 c = accepted_frame _ (sym c.in_ok-check.ensures)
 
 pub count_all-count-requires : goal.count_all-count-requires
 count_all-count-requires c =
-    let ok = sym c.check-refused.ensures ∙ c.if-refused-ne0.false in
+    let ok = sym c.in_ok-check.ensures in
     (few_policies _ ok c.part.ensures, few_users _ ok c.part-2.ensures)
 
 pub returns-then-out-count : goal.returns-then-out-count
 returns-then-out-count c =
-    let ok = sym c.check-refused.ensures ∙ c.if-refused-ne0.false in
+    let ok = sym c.in_ok-check.ensures in
     let found = all_found c.args.base.now ok c.contradictions.ensures c.overlaps.ensures c.holders.ensures in
     let are = found c.part.ensures c.part-2.ensures in
     let count = list_count _ _ _ c.count_all-count.ensures.0 are in
@@ -67,13 +70,13 @@ returns-then-out-count c =
 
 pub write_all-requires : goal.write_all-requires
 write_all-requires c =
-    let ok = sym c.check-refused.ensures ∙ c.if-refused-ne0.false in
+    let ok = sym c.in_ok-check.ensures in
     let size = c.count_all-count.ensures.0 in
     (few_policies _ ok c.part.ensures, few_users _ ok c.part-2.ensures, rw (← size) c.if-out-count.false)
 
 pub returns : goal.returns
 returns c =
-    let ok = sym c.check-refused.ensures ∙ c.if-refused-ne0.false in
+    let ok = sym c.in_ok-check.ensures in
     let found = all_found c.args.base.now ok c.contradictions.ensures c.overlaps.ensures c.holders.ensures in
     let are = found c.part.ensures c.part-2.ensures in
     let count = list_count _ _ _ c.count_all-count.ensures.0 are in

@@ -1,31 +1,30 @@
 -- `report` meets its contract: the first refusal that applies is the answer, or the report is written.
-use Rattle.std.proofs.Common.{sym, ◌∙◌, length, []}
-use Rattle.report.proofs.Answers.{refused_base, past_base, reported_refused, reported_by}
+use Rattle.std.proofs.Common.{sym, length, []}
+use Rattle.reader.proofs.Results.{refusal_pos, carried_on}
+use Rattle.report.proofs.Answers.{refused_base, past_base, reported_refused, reported_by, refused_as}
 use Rattle.report.proofs.Demand.{demanded}
 use Rattle.report.proofs.report.Goals as goal
 
-pub returns-then-refused-ne0-clause-promise : goal.returns-then-refused-ne0-clause-promise
-returns-then-refused-ne0-clause-promise c =
-    let some = c.if-refused-ne0.true in
-    reported_refused _ _ _ _ (refused_base _ _ _ c.check-refused.ensures some) some
+pub returns-in_err-check-clause-promise : goal.returns-in_err-check-clause-promise
+returns-in_err-check-clause-promise c =
+    refused_as (carried_on _ _ c.from_residual.ensures.1)
+    (reported_refused _ _ _ _ (refused_base _ _ _ c.in_err-check.ensures (refusal_pos _)) (refusal_pos _))
 
-pub returns-then-unfit-ne0-clause-promise : goal.returns-then-unfit-ne0-clause-promise
-returns-then-unfit-ne0-clause-promise c =
+pub returns-in_err-fitting_refusal-clause-promise : goal.returns-in_err-fitting_refusal-clause-promise
+returns-in_err-fitting_refusal-clause-promise c =
     let b = c.args.base.now in
     let n = length c.args.out.now in
-    let ok = sym c.check-refused.ensures ∙ c.if-refused-ne0.false in
-    let past = past_base b c.args.at n ok c.fitting_refusal-unfit.ensures in
-    reported_refused _ _ _ _ past c.if-unfit-ne0.true
+    let past = past_base b c.args.at n (sym c.in_ok-check.ensures) c.in_err-fitting_refusal.ensures in
+    refused_as (carried_on _ _ c.from_residual-in_err-fitting_refusal.ensures.1)
+    (reported_refused _ _ _ _ past (refusal_pos _))
 
 pub returns-clause-promise : goal.returns-clause-promise
 returns-clause-promise c =
     let b = c.args.base.now in
     let n = length c.args.out.now in
-    let ok = sym c.check-refused.ensures ∙ c.if-refused-ne0.false in
-    let none = sym c.fitting_refusal-unfit.ensures ∙ c.if-unfit-ne0.false in
     let (same, listed, _) = c.setting-s.ensures in
-    let (count, parts) = c.fill-count.ensures in
-    let past = past_base b c.args.at n ok (sym none) in
+    let (count, parts) = c.fill.ensures in
+    let past = past_base b c.args.at n (sym c.in_ok-check.ensures) c.in_ok-fitting_refusal.ensures in
     reported_by [] b c.args.at _ _ c.args.out.now past same listed count parts
 
 pub returns-clause-demand : goal.returns-clause-demand

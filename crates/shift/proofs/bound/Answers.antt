@@ -1,6 +1,7 @@
 -- `bound` meets its contract: the chain of refusals, then the bound by the table A and the juniors.
 use Rattle.std.proofs.Common.{ℕ, Bool, true, false, List, length, ◌≡◌, ◌<◌, ◌≤◌, ◌*◌, arith}
 use mathlib.Core.Bool.{cond}
+use Rattle.std.specs.Prelude.{Err}
 use mathlib.Core.Path.{sym, ◌∙◌}
 use native.Mathlib.Nat.{lt_of_lt_of_le, suc-ne-zero}
 use borrow.Author.Tests.{ltb-false}
@@ -11,6 +12,8 @@ use Rattle.reader.specs.Fields.{policy_role, policy_weight}
 use Rattle.reader.specs.Rules.{refusal_of}
 use Rattle.reader.proofs.Frame.{roles_range}
 use Rattle.reader.proofs.Accepted.{accepted, accepted_frame, policy_fine}
+use Rattle.reader.specs.declared.refusal.Refusal.TheVariants.{Change}
+use Rattle.reader.proofs.Results.{refusal_pos, carried_on}
 use Rattle.reader.proofs.Answered.{answered_refused, answered_done_lem}
 use Rattle.weights.specs.Acting.{may_act}
 use Rattle.weights.specs.Setting.{Juniors}
@@ -29,10 +32,10 @@ record Known (b g : List ℕ) : Type 0 where
   few : length g ≤ 12
   low : (k : ℕ) → k < entry_count g → entry_role g k < 8
 
-known : {b g : List ℕ} {n m : ℕ} → n ≡ refusal_of b → n ≡ 0 → m ≡ members_of b g → m ≡ 0 → Known b g
-known {b} {g} checked fine is zero =
-    let ok : refusal_of b ≡ 0 = sym checked ∙ fine in
-    let none : members_of b g ≡ 0 = sym is ∙ zero in
+known : {b g : List ℕ} → 0 ≡ refusal_of b → 0 ≡ members_of b g → Known b g
+known {b} {g} checked fine =
+    let ok = sym checked in
+    let none = sym fine in
     let m : Members (user_count b) (role_count b) (may_act b) g = members_of_lem _ _ _ g none in
     record {
       ok = ok;
@@ -85,42 +88,40 @@ bound_by : (b juniors a : List ℕ) (i w : ℕ) (g : List ℕ) {k : ℕ} → a �
 unfolding bound_of
 bound_by b juniors a i w g e are low h = rw (e, touched_by b juniors are i g low) at h
 
-pub returns-then-refused-ne0 : goal.returns-then-refused-ne0
-returns-then-refused-ne0 c =
-    answered_refused _ _ (by_check _ _ _ _ c.check-refused.ensures c.if-refused-ne0.true) c.if-refused-ne0.true
+pub returns-in_err-check : goal.returns-in_err-check
+returns-in_err-check c =
+    carried_on _ _ c.from_residual.ensures.1
+    ∙ answered_refused _ _ (by_check _ _ _ _ c.in_err-check.ensures (refusal_pos _)) (refusal_pos _)
 
-pub returns-then-members-ne0 : goal.returns-then-members-ne0
-returns-then-members-ne0 c =
-    let ok = sym c.check-refused.ensures ∙ c.if-refused-ne0.false in
-    answered_refused _ _ (by_members _ _ _ _ ok c.members_refusal-members.ensures c.if-members-ne0.true)
-    c.if-members-ne0.true
+pub returns-in_err-members_refusal : goal.returns-in_err-members_refusal
+returns-in_err-members_refusal c =
+    let ok = sym c.in_ok-check.ensures in
+    carried_on _ _ c.from_residual-in_err-members_refusal.ensures.1
+    ∙ answered_refused _ _ (by_members _ _ _ _ ok c.in_err-members_refusal.ensures (refusal_pos _)) (refusal_pos _)
 
 pub part-a-requires : goal.part-a-requires
-part-a-requires c = accepted_frame _ (sym c.check-refused.ensures ∙ c.if-refused-ne0.false)
+part-a-requires c = accepted_frame _ (sym c.in_ok-check.ensures)
 
 pub returns-then-change_refused : goal.returns-then-change_refused
 returns-then-change_refused c =
-    let k = known c.check-refused.ensures c.if-refused-ne0.false c.members_refusal-members.ensures
-    c.if-members-ne0.false in
+    let k = known c.in_ok-check.ensures c.in_ok-members_refusal.ensures in
     let bad = by_table c.args.policy c.args.weight c.part-a.ensures c.if-change_refused.ensures in
-    answered_refused _ _ (by_21 _ _ _ _ k bad) (suc-ne-zero 20)
+    carried_on Change (Err _) c.into.ensures ∙ answered_refused _ _ (by_21 _ _ _ _ k bad) (suc-ne-zero 20)
 
 pub overflow_cast-weight : goal.overflow_cast-weight
 overflow_cast-weight c = let most = small _ c.args.policy c.args.weight (sym c.if-change_refused.ensures) in omega arith
 
-pub bound_of-count-requires : goal.bound_of-count-requires
-bound_of-count-requires c =
-    let k = known c.check-refused.ensures c.if-refused-ne0.false c.members_refusal-members.ensures
-    c.if-members-ne0.false in
+pub bound_of-requires : goal.bound_of-requires
+bound_of-requires c =
+    let k = known c.in_ok-check.ensures c.in_ok-members_refusal.ensures in
     let good = by_table c.args.policy c.args.weight c.part-a.ensures c.if-change_refused.ensures in
     let (there, low) = in_table _ _ _ k.ok c.part-a.ensures (change_allowed _ _ c.args.weight good).0 in
     (there, low, k.few, k.low)
 
 pub returns : goal.returns
 returns c =
-    let k = known c.check-refused.ensures c.if-refused-ne0.false c.members_refusal-members.ensures
-    c.if-members-ne0.false in
+    let k = known c.in_ok-check.ensures c.in_ok-members_refusal.ensures in
     let good = by_table c.args.policy c.args.weight c.part-a.ensures c.if-change_refused.ensures in
     answered_done_lem _ _ (by_none _ _ _ _ k good)
     (bound_by _ _ _ c.args.policy c.args.weight c.args.group.now c.part-a.ensures c.juniors_of_base-juniors.ensures
-    k.low c.bound_of-count.ensures)
+    k.low c.bound_of.ensures)

@@ -36,7 +36,7 @@ cover_sets-covered-requires c =
     )
 
 pub part-requires-2 : goal.part-requires-2
-part-requires-2 c = (accepted_frame _ c.requires, lit< tt)
+part-requires-2 c = accepted_frame _ c.requires
 
 pub excluded_sets-apart-requires : goal.excluded_sets-apart-requires
 excluded_sets-apart-requires c =
