@@ -11,3 +11,4 @@ pub mod Standing
 pub mod Staying
 pub mod TakingBack
 pub mod Withdrawing
+pub mod Results

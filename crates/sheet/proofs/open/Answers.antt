@@ -1,9 +1,13 @@
 -- `open` meets its contract: the head of the decision's chain, and the sheet that each refusal gives.
-use Rattle.std.proofs.Common.{ℕ, ◌≤◌, ◌<◌, List, ◌≡◌, sym, ◌∙◌}
+use Rattle.std.proofs.Common.{ℕ, ◌≤◌, ◌<◌, List, ◌≡◌, refl, sym, ◌∙◌}
 use borrow.Author.Tests.{lt-ltb, le-ltb, ne_eqb}
 use Rattle.reader.specs.Tables.{permission_count}
 use Rattle.reader.specs.Rules.{refusal_of}
 use Rattle.reader.proofs.Accepted.{accepted_frame}
+use Rattle.std.specs.Prelude.{Err}
+use Rattle.reader.specs.declared.refusal.Refusal.TheVariants.{Permission}
+use Rattle.reader.proofs.Results.{refusal_pos}
+use Rattle.sheet.proofs.Results.{unopened_with}
 use Rattle.sheet.specs.declared.Sheet.{Sheet}
 use Rattle.sheet.specs.Sheets.{Outcome}
 use Rattle.sheet.specs.Sheets.{unsigned, open_refusal, opened_for, opened}
@@ -25,19 +29,20 @@ module _ (b : List ℕ) (p : ℕ) where
   unfolding opened_for open_refusal
   done ok e h k = rw (k, ok, ← e, lt-ltb _ _ h)
 
-pub returns-then-refused-ne0 : goal.returns-then-refused-ne0
-returns-then-refused-ne0 c =
-    by_base _ _ c.check-refused.ensures c.if-refused-ne0.true c.unsigned_for.ensures
+pub returns-in_err-check : goal.returns-in_err-check
+returns-in_err-check c =
+    unopened_with _ _ c.from_residual.ensures.1 ∙ by_base _ _ c.in_err-check.ensures (refusal_pos _) refl
 
 pub permission_count-requires : goal.permission_count-requires
-permission_count-requires c = accepted_frame _ (sym c.check-refused.ensures ∙ c.if-refused-ne0.false)
+permission_count-requires c = accepted_frame _ (sym c.in_ok-check.ensures)
 
 pub returns-then-permission_count-permission : goal.returns-then-permission_count-permission
 returns-then-permission_count-permission c =
-    by_permission _ _ (sym c.check-refused.ensures ∙ c.if-refused-ne0.false) c.permission_count.ensures
-    c.if-permission_count-permission.true c.unsigned_for-then-permission_count-permission.ensures
+    unopened_with Permission (Err _) c.into.ensures
+    ∙ by_permission _ _ (sym c.in_ok-check.ensures) c.permission_count.ensures
+    c.if-permission_count-permission.true refl
 
 pub returns : goal.returns
 returns c =
-    done _ _ (sym c.check-refused.ensures ∙ c.if-refused-ne0.false) c.permission_count.ensures
-    c.if-permission_count-permission.false c.unsigned_for-2.ensures
+    done _ _ (sym c.in_ok-check.ensures) c.permission_count.ensures
+    c.if-permission_count-permission.false c.unsigned_for.ensures

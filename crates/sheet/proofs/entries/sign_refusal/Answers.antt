@@ -4,6 +4,7 @@ use borrow.Author.Tests.{le-leb, lt-leb}
 use Rattle.folds.proofs.Bools.{met, passed, refused, unrefused, not_ltb}
 use Rattle.reader.specs.Tables.{role_count, user_count}
 use Rattle.reader.specs.Rules.{refusal_of}
+use Rattle.reader.proofs.Results.{refusal_pos, handed_on}
 use Rattle.weights.specs.Acting.{may_act}
 use Rattle.decision.specs.Groups.{entry_count, unknown}
 use Rattle.sheet.specs.Sheets.{stands_in, sign_refusal}
@@ -33,9 +34,9 @@ module _ (base held : List ℕ) (user role : ℕ) where
   unfolding sign_refusal
   at9 e h = e ∙ refused _ (λ k. h (e ∙ k))
 
-  past9 : {n : ℕ} → n ≡ refusal_of base → n ≡ 0 → answer ≡ left9
+  past9 : 0 ≡ refusal_of base → answer ≡ left9
   unfolding sign_refusal
-  past9 e h = unrefused (sym e ∙ h)
+  past9 ok = unrefused (sym ok)
 
   at13 : {t : Bool} → answer ≡ left9 → t ≡ not_there → t ≡ true → 13 ≡ answer
   at13 rest e h = met _ (sym e ∙ h) ∙ sym rest
@@ -61,13 +62,13 @@ module _ (base held : List ℕ) (user role : ℕ) where
   past20 : answer ≡ left15 → entry_count held < 6 → 0 ≡ answer
   past20 rest h = sym (rest ∙ passed 20 (not_ltb (entry_count held) 6 ∙ lt-leb _ _ h))
 
-pub returns-then-refused-ne0 : goal.returns-then-refused-ne0
-returns-then-refused-ne0 c =
+pub returns-in_err-check : goal.returns-in_err-check
+returns-in_err-check c =
     let b = c.args.base.now in
     let held = c.args.held.now in
     let u = c.args.user in
     let r = c.args.role in
-    at9 b held u r c.check-refused.ensures c.if-refused-ne0.true
+    handed_on _ _ c.from_residual.ensures.1 ∙ at9 b held u r c.in_err-check.ensures (refusal_pos _)
 
 pub returns-then-is_unknown : goal.returns-then-is_unknown
 returns-then-is_unknown c =
@@ -75,7 +76,7 @@ returns-then-is_unknown c =
     let held = c.args.held.now in
     let u = c.args.user in
     let r = c.args.role in
-    let rest9 = past9 b held u r c.check-refused.ensures c.if-refused-ne0.false in
+    let rest9 = past9 b held u r c.in_ok-check.ensures in
     at13 b held u r rest9 c.is_unknown.ensures c.if-is_unknown.true
 
 pub returns-then-stands_in : goal.returns-then-stands_in
@@ -84,7 +85,7 @@ returns-then-stands_in c =
     let held = c.args.held.now in
     let u = c.args.user in
     let r = c.args.role in
-    let rest9 = past9 b held u r c.check-refused.ensures c.if-refused-ne0.false in
+    let rest9 = past9 b held u r c.in_ok-check.ensures in
     let rest13 = past13 b held u r rest9 c.is_unknown.ensures c.if-is_unknown.false in
     at14 b held u r rest13 c.stands_in.ensures c.if-stands_in.true
 
@@ -94,7 +95,7 @@ returns-then-is_ineligible c =
     let held = c.args.held.now in
     let u = c.args.user in
     let r = c.args.role in
-    let rest9 = past9 b held u r c.check-refused.ensures c.if-refused-ne0.false in
+    let rest9 = past9 b held u r c.in_ok-check.ensures in
     let rest13 = past13 b held u r rest9 c.is_unknown.ensures c.if-is_unknown.false in
     let rest14 = past14 b held u r rest13 c.stands_in.ensures c.if-stands_in.false in
     at15 b held u r rest14 c.is_ineligible.ensures c.if-is_ineligible.true
@@ -105,7 +106,7 @@ returns-then-held-ge6 c =
     let held = c.args.held.now in
     let u = c.args.user in
     let r = c.args.role in
-    let rest9 = past9 b held u r c.check-refused.ensures c.if-refused-ne0.false in
+    let rest9 = past9 b held u r c.in_ok-check.ensures in
     let rest13 = past13 b held u r rest9 c.is_unknown.ensures c.if-is_unknown.false in
     let rest14 = past14 b held u r rest13 c.stands_in.ensures c.if-stands_in.false in
     let rest15 = past15 b held u r rest14 c.is_ineligible.ensures c.if-is_ineligible.false in
@@ -117,7 +118,7 @@ returns c =
     let held = c.args.held.now in
     let u = c.args.user in
     let r = c.args.role in
-    let rest9 = past9 b held u r c.check-refused.ensures c.if-refused-ne0.false in
+    let rest9 = past9 b held u r c.in_ok-check.ensures in
     let rest13 = past13 b held u r rest9 c.is_unknown.ensures c.if-is_unknown.false in
     let rest14 = past14 b held u r rest13 c.stands_in.ensures c.if-stands_in.false in
     let rest15 = past15 b held u r rest14 c.is_ineligible.ensures c.if-is_ineligible.false in
