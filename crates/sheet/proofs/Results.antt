@@ -1,5 +1,4 @@
 -- What the results of the calls on a sheet answer, where they hold a refusal.
-use Prim.Native.Nat.{ℕ}
 use mathlib.Core.Path.{◌≡◌, ap}
 use Rattle.std.specs.Prelude.{Result, Ok, Err}
 use Rattle.std.specs.Result.{IsErrAnd}
@@ -7,7 +6,7 @@ use Rattle.reader.specs.declared.refusal.Refusal.{Refusal}
 use Rattle.reader.specs.Refusals.{refusal_number}
 use Rattle.sheet.specs.declared.Sheet.{Sheet}
 use Rattle.sheet.specs.declared.Unopened.{Unopened}
-use Rattle.sheet.specs.Sheets.{Outcome, unsigned}
+use Rattle.sheet.specs.Sheets.{unsigned}
 use Rattle.sheet.specs.Outcomes.{unopened, opening_outcome, outcome_of}
 
 -- a refused opening

@@ -2,7 +2,6 @@
 -- written is the list.
 use Rattle.std.proofs.Common.{ℕ, ◌≡◌, ◌<◌, ◌≤◌, ◌*◌, ◌/◌, List, length, refl, sym, ap, ◌∙◌}
 use borrow.Author.Tests.{ne_eqb, lt-ltb, le-ltb}
-use lib.Dec.{lit<}
 use lib.Seq.{sets}
 use Rattle.reader.specs.Tables.{users, policies, table_of}
 use Rattle.reader.specs.Rules.{refusal_of}

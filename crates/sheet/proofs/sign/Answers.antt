@@ -17,7 +17,6 @@ module _ (b : List ℕ) (s : Sheet) (u r : ℕ) {n : ℕ} {held : List ℕ} (are
   of_held : n ≡ sign_refusal b (held_on s) u r
   of_held = e ∙ ap (λ (g : List ℕ). sign_refusal b g u r) are
 
-
 passing : (b : List ℕ) (s : Sheet) (u r : ℕ) {held : List ℕ} → held ≡ held_on s → 0 ≡ sign_refusal b held u r →
     Passes b (held_on s) u r
 passing b s u r are e = sign_passes _ _ _ _ (sym (of_held b s u r are e))

@@ -1,6 +1,5 @@
 -- `contradictions` meets its contract: each turn adds a row, and the rows by the related slots are those of the rules.
 use Rattle.std.proofs.Common.{ℕ, ◌≡◌, ◌/◌, List, length, arith}
-use lib.Dec.{lit<}
 use Rattle.folds.specs.Sets.{in_set}
 use Rattle.reader.specs.Tables.{contexts, policies, table_of}
 use Rattle.reader.specs.Rules.{refusal_of}

@@ -1,6 +1,5 @@
 -- `holders` meets its contract: each turn adds a row, that of the next user.
 use Rattle.std.proofs.Common.{ℕ, ◌≡◌, ◌/◌, List, length, arith}
-use lib.Dec.{lit<}
 use Rattle.reader.specs.Tables.{users, exclusions, role_count, table_of}
 use Rattle.reader.proofs.Accepted.{accepted_frame}
 use Rattle.reader.proofs.Frame.{framed, roles_range}

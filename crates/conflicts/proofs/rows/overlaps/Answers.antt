@@ -1,6 +1,5 @@
 -- `overlaps` meets its contract: each turn adds a row, and the rows by the sets worked out are those of the rules.
 use Rattle.std.proofs.Common.{ℕ, ◌≡◌, ◌/◌, List, length, arith}
-use lib.Dec.{lit<}
 use Rattle.reader.specs.Tables.{hierarchy, policies, exclusions, table_of}
 use Rattle.reader.specs.Rules.{refusal_of}
 use Rattle.reader.proofs.Accepted.{accepted, accepted_frame}

@@ -1,6 +1,7 @@
 -- The lemmas of `Answered` make the text of the report's answer and parts.
-use Rattle.std.proofs.Common.{ℕ, ◌≡◌, ◌≤◌, List, length, arith, refl, replicate}
+use Rattle.std.proofs.Common.{ℕ, ◌≡◌, ◌≤◌, List, length, arith, refl, sym, ◌∙◌}
 use Rattle.reader.specs.declared.Answer.{Answer}
+use Rattle.reader.proofs.Results.{refusal_pos}
 use Rattle.reader.specs.Tables.{permission_count}
 use Rattle.release_list.specs.Text.{ascii}
 use Rattle.release_list.specs.Writing.{Written, Parts, lines_text}
@@ -17,40 +18,36 @@ module _ (b parts : List ℕ) {n : ℕ} (is : n ≡ permission_count b) where
       Written (lines_text parts (permission_count b)) out 0 next now
   lines_written w = rw is at w
 
-pub put_count-requires : goal.put_count-requires
-put_count-requires c =
-    omega (arith, c.requires, count_short (ascii "refused ") c.report-answer.result.refusal (omega arith))
-
-pub returns-then-answer-ne0 : goal.returns-then-answer-ne0
-returns-then-answer-ne0 c =
-    refused_listed _ _ _ _ _ refl c.report-answer.ensures.promise c.if-answer-ne0.true c.requires c.put_count.ensures
-
 pub permission_count-requires : goal.permission_count-requires
-permission_count-requires c =
-    let r = c.report-answer in
-    (report_ready _ _ _ _ _ refl r.ensures.promise c.if-answer-ne0.false (omega arith)).tables
+permission_count-requires c = (report_ready _ _ _ _ _ refl c.in-Ok.ensures.promise refl (omega arith)).tables
 
 pub put_lines-next-requires : goal.put_lines-next-requires
 put_lines-next-requires c =
-    let r = c.report-answer in
-    let ready = report_ready _ _ _ _ _ refl r.ensures.promise c.if-answer-ne0.false (omega arith) in
-    lines_asked c.args.base.now r.new.out c.permission_count.ensures ready c.requires
+    let ready = report_ready _ _ _ _ _ refl c.in-Ok.ensures.promise refl (omega arith) in
+    lines_asked c.args.base.now c.report.new.out c.permission_count.ensures ready c.requires
 
-pub overflow_cast-answer : goal.overflow_cast-answer
-overflow_cast-answer c =
-    let r = c.report-answer in
-    let ready = report_ready _ _ _ _ _ refl r.ensures.promise c.if-answer-ne0.false (omega arith) in
+pub overflow_cast-count : goal.overflow_cast-count
+overflow_cast-count c =
+    let ready = report_ready _ _ _ _ _ refl c.in-Ok.ensures.promise refl (omega arith) in
     omega (arith, ready.count)
 
-pub put_count-requires-2 : goal.put_count-requires-2
-put_count-requires-2 c =
-    let r = c.report-answer in
-    let ready = report_ready _ _ _ _ _ refl r.ensures.promise c.if-answer-ne0.false (omega arith) in
-    let w = lines_written c.args.base.now r.new.out c.permission_count.ensures c.put_lines-next.ensures in
+pub put_count-requires : goal.put_count-requires
+put_count-requires c =
+    let ready = report_ready _ _ _ _ _ refl c.in-Ok.ensures.promise refl (omega arith) in
+    let w = lines_written c.args.base.now c.report.new.out c.permission_count.ensures c.put_lines-next.ensures in
     omega (arith, w.place, ready.lines, ready.last, c.requires)
 
-pub returns : goal.returns
-returns c =
-    let r = c.report-answer in
-    let w = lines_written c.args.base.now r.new.out c.permission_count.ensures c.put_lines-next.ensures in
-    done_listed _ _ _ _ _ refl r.ensures.promise c.if-answer-ne0.false c.requires w c.put_count-2.ensures
+pub returns-in-Ok : goal.returns-in-Ok
+returns-in-Ok c =
+    let w = lines_written c.args.base.now c.report.new.out c.permission_count.ensures c.put_lines-next.ensures in
+    done_listed _ _ _ _ _ refl c.in-Ok.ensures.promise refl c.requires w c.put_count.ensures
+
+pub put_count-requires-in-Err : goal.put_count-requires-in-Err
+put_count-requires-in-Err c =
+    omega (arith, c.requires, count_short (ascii "refused ") c.number.result (omega arith))
+
+pub returns-in-Err : goal.returns-in-Err
+returns-in-Err c =
+    let answer = c.in-Err.ensures.promise in
+    refused_listed _ _ _ _ _ refl (rw (← c.number.ensures) at answer) (λ e. refusal_pos _ (sym c.number.ensures ∙ e))
+    c.requires c.put_count-in-Err.ensures

@@ -1,5 +1,5 @@
 -- `part_for` meets its contract: the search's answer is a smallest granted group, or that there is none.
-use Rattle.std.proofs.Common.{ℕ, ◌-◌, ◌*◌, ◌≤◌, Bool, List, ◌≡◌, sym, ap, ◌∙◌, length, replicate, arith, rules}
+use Rattle.std.proofs.Common.{ℕ, ◌-◌, ◌*◌, ◌≤◌, Bool, List, ◌≡◌, sym, ap, ◌∙◌, length, replicate, arith}
 use native.Mathlib.Nat.{lt_of_lt_of_le}
 use Rattle.std.proofs.Math.ListN.{length-append, length-replicate}
 use Rattle.reader.specs.Tables.{role_count}
