@@ -6,7 +6,7 @@ ghost use Rattle.reader.specs.Bytes.{word16, word32};
 pub fn wide(x: u8) -> usize
     ensures { (result ≡ x) × (result < 256) }
 {
-    x as usize
+    usize::from(x)
 }
 
 // Inner: the number in 2 bytes.
@@ -14,7 +14,7 @@ pub fn get16(b: &[u8], i: usize) -> u16
     requires { i + 2 ≤ length b.now }
     ensures { result ≡ word16 b.now i }
 {
-    b[i] as u16 + 256 * (b[i + 1] as u16)
+    u16::from_le_bytes([b[i], b[i + 1]])
 }
 
 // Inner: the number in 4 bytes.
@@ -22,5 +22,5 @@ pub fn get32(b: &[u8], i: usize) -> u32
     requires { i + 4 ≤ length b.now }
     ensures { result ≡ word32 b.now i }
 {
-    get16(b, i) as u32 + 65536 * (get16(b, i + 2) as u32)
+    u32::from_le_bytes([b[i], b[i + 1], b[i + 2], b[i + 3]])
 }

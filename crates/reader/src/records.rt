@@ -7,14 +7,10 @@ ghost use Rattle.reader.specs.Rules.{hierarchy_bad, policy_bad, policies_bad, ex
 pub fn hierarchy_bad(h: &[u8], roles: u8) -> bool
     ensures { result ≡ hierarchy_bad roles h.now }
 {
-    for i in 0..h.len() / 2 {
-        let at = 2 * i;
-        let junior = h[at + 1];
-        if (junior <= h[at]) | (roles <= junior) {
-            return true;
-        }
-    }
-    false
+    (0..h.len() / 2).any(|i| {
+        let junior = h[2 * i + 1];
+        (junior <= h[2 * i]) | (roles <= junior)
+    })
 }
 
 fn policy_bad(a: &[u8], i: usize, roles: u8, permissions: u8) -> bool
@@ -36,12 +32,7 @@ fn policy_bad(a: &[u8], i: usize, roles: u8, permissions: u8) -> bool
 pub fn policies_bad(a: &[u8], roles: u8, permissions: u8) -> bool
     ensures { result ≡ policies_bad roles permissions a.now }
 {
-    for i in 0..a.len() / 8 {
-        if policy_bad(a, i, roles, permissions) {
-            return true;
-        }
-    }
-    false
+    (0..a.len() / 8).any(|i| policy_bad(a, i, roles, permissions))
 }
 
 fn exclusion_bad(x: &[u8], i: usize, roles: u8, permissions: u8) -> bool
@@ -59,10 +50,5 @@ fn exclusion_bad(x: &[u8], i: usize, roles: u8, permissions: u8) -> bool
 pub fn exclusions_bad(x: &[u8], roles: u8, permissions: u8) -> bool
     ensures { result ≡ exclusions_bad roles permissions x.now }
 {
-    for i in 0..x.len() / 3 {
-        if exclusion_bad(x, i, roles, permissions) {
-            return true;
-        }
-    }
-    false
+    (0..x.len() / 3).any(|i| exclusion_bad(x, i, roles, permissions))
 }

@@ -1,21 +1,10 @@
--- `policies_bad` meets its contract: the loop passes the records that aren't bad.
-use Rattle.std.proofs.Common.{sym, ◌∙◌}
-use Rattle.folds.proofs.Searches.{none_at_first, none_further, one_found, none_found}
-use Rattle.reader.specs.Rules.{policies_bad}
+use Rattle.std.proofs.Common.{rules, tests, length, ◌/◌}
+use Rattle.folds.proofs.Chains.{any_of_range}
+use Rattle.reader.specs.Rules.{policy_bad, policies_bad}
 use Rattle.reader.proofs.records.policies_bad.Goals as goal
-
-pub loop-i-init : goal.loop-i-init
-loop-i-init c = none_at_first
-
-pub returns-then-policy_bad : goal.returns-then-policy_bad
-unfolding policies_bad
-returns-then-policy_bad c =
-    one_found c.loop-i.invariant c.loop-i-test.true (sym c.policy_bad.ensures ∙ c.if-policy_bad.true)
-
-pub loop-i-preserved : goal.loop-i-preserved
-loop-i-preserved c =
-    none_further c.loop-i.invariant c.loop-i-test.true (sym c.policy_bad.ensures ∙ c.if-policy_bad.false)
 
 pub returns : goal.returns
 unfolding policies_bad
-returns c = none_found c.loop-i.invariant c.loop-i-test.false
+returns c =
+    any_of_range (policy_bad c.args.roles c.args.permissions c.args.a.now) (length c.args.a.now / 8) _ _ _ (cc)
+    (λ x b q k. search (rules, tests)) c.any.ensures.ran
