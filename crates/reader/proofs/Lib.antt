@@ -2,7 +2,6 @@ pub mod Frame
 pub mod Parameter
 pub mod Trying
 pub mod Accepted
-pub mod Conditions
 pub mod Replaced
 pub mod Answered
 pub mod Results

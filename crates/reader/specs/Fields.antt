@@ -54,6 +54,10 @@ context_operator c i j = get_or c (width contexts * i + 4 * j + 3) 0
 abbrev pub context_value : List ℕ → ℕ → ℕ → ℕ
 context_value c i j = word16 c (width contexts * i + 4 * j + 4)
 
+-- the number n of conditions of a K or a C record, clause_length or context_length
+abbrev pub condition_count : List ℕ → ℕ → ℕ
+condition_count r i = get_or r (16 * i + 1) 0
+
 -- the 2 zero bytes at the end of a K or a C record
 abbrev pub zero_byte14 : List ℕ → ℕ → ℕ
 zero_byte14 r i = get_or r (16 * i + 14) 0

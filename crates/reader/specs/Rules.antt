@@ -7,7 +7,7 @@ use Rattle.reader.specs.Tables.{role_count, permission_count, table_of, length_b
 use Rattle.reader.specs.Fields.{senior, junior, parameter, clause_permission, clause_length}
 use Rattle.reader.specs.Fields.{condition_attribute, condition_operator, condition_value}
 use Rattle.reader.specs.Fields.{context_number, context_length, context_parameter, context_operator, context_value}
-use Rattle.reader.specs.Fields.{zero_byte14, zero_byte15, policy_role, policy_permission, policy_weight}
+use Rattle.reader.specs.Fields.{condition_count, zero_byte14, zero_byte15, policy_role, policy_permission, policy_weight}
 use Rattle.reader.specs.Fields.{policy_type, policy_context, exclusion_kind, exclusion_first, exclusion_second}
 use Rattle.reader.specs.Codes.{parameter_ok}
 
@@ -33,6 +33,21 @@ user_bad R u i = not (parameter_ok R (parameter u i))
 unfoldable pub users_bad : ℕ → List ℕ → Bool
 unfolding any_below
 users_bad R u = any_below (record_count users u) (user_bad R u)
+
+-- the three numbers of a slot aren't all zero
+abbrev pub some_nonzero : ℕ → ℕ → ℕ → Bool
+some_nonzero x y z = nonzero x || (nonzero y || nonzero z)
+
+-- slot j of K or C record i: one of the n, which keeps the rules, or one beyond n, which is zero bytes; by what the
+-- slot reads as, and two tests of that
+abbrev pub slot_bad : {C : Type 0} → (List ℕ → ℕ → ℕ → C) → (C → Bool) → (C → Bool) → List ℕ → ℕ → ℕ → Bool
+slot_bad at bad some r i j = cond (ltb j (condition_count r i)) (bad (at r i j)) (some (at r i j))
+
+-- what a K or C record breaks behind its first byte, by the tests of its slots, of which it has so many
+abbrev pub rest_bad : ℕ → (ℕ → Bool) → List ℕ → ℕ → Bool
+rest_bad slots test r i =
+    outside 1 slots (condition_count r i)
+    || (any_below slots test || (nonzero (zero_byte14 r i) || nonzero (zero_byte15 r i)))
 
 -- a group condition: attributes 0 to 2 take operators 0 to 5; attribute 3 takes only operator 6 and a value with
 -- no bit at R or above

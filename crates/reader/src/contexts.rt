@@ -1,71 +1,69 @@
-// The records of C: refusal 7. `|` makes each of its tests, whatever the others say, without a branch.
+// The records of C: refusal 7.
 ghost use Rattle.std.specs.Prelude.{◌≡◌, ◌+◌, ◌*◌, ◌≤◌, ◌<◌, length};
-ghost use Rattle.folds.specs.Below.{any_below};
-ghost use Rattle.reader.specs.Rules.{context_condition_bad, context_slot_bad, context_bad, contexts_bad};
+ghost use Rattle.reader.specs.Fields.{context_parameter, context_operator, context_value};
+ghost use Rattle.reader.specs.Rules.{context_condition_bad, some_nonzero, context_bad, contexts_bad};
 
 use crate::bytes;
+use crate::conditions::{Condition, rest_bad};
 
 // How many values a context's parameter has: minute, day, zone.
 const RANGES: [u16; 3] = [1440, 7, 256];
 
-fn context_condition_bad(parameter: u8, operator: u8, value: u16) -> bool
-    ensures { result ≡ context_condition_bad parameter operator value }
-{
-    if 2 < parameter {
-        true
-    } else {
-        (5 < operator) | (RANGES[parameter as usize] <= value)
-    }
+// Inner: a condition on a context.
+#[derive(Clone, Copy)]
+pub struct ContextCondition {
+    pub parameter: u8,
+    pub operator: u8,
+    pub value: u16,
 }
 
-// Condition j of record i, used or not.
-fn context_slot_bad(c: &[u8], i: usize, j: usize) -> bool
-    requires { (16 * i + 16 ≤ length c.now) × (j < 3) }
-    ensures { result ≡ context_slot_bad c.now i j }
-{
-    let at = 16 * i;
-    let slot = at + 4 * j;
-    let parameter = c[slot + 2];
-    let operator = c[slot + 3];
-    let value = bytes::get16(c, slot + 4);
-    if j < c[at + 1] as usize {
-        context_condition_bad(parameter, operator, value)
-    } else {
-        (parameter != 0) | (operator != 0) | (value != 0)
-    }
-}
+impl Condition for ContextCondition {
+    const SLOTS: usize = 3;
 
-fn context_slots_bad(c: &[u8], i: usize) -> bool
-    requires { 16 * i + 16 ≤ length c.now }
-    ensures { result ≡ any_below 3 (context_slot_bad c.now i) }
-{
-    for j in 0..3usize {
-        if context_slot_bad(c, i, j) {
-            return true;
+    ghost SLOTS = { 3 };
+
+    ghost at = { λ c i j. record {
+      parameter = context_parameter c i j;
+      operator = context_operator c i j;
+      value = context_value c i j;
+    } };
+
+    ghost bad = { λ R x. context_condition_bad x.parameter x.operator x.value };
+
+    ghost nonzero = { λ x. some_nonzero x.parameter x.operator x.value };
+
+    fn read(c: &[u8], i: usize, j: usize) -> ContextCondition {
+        let at = 16 * i + 4 * j;
+        ContextCondition {
+            parameter: c[at + 2],
+            operator: c[at + 3],
+            value: bytes::get16(c, at + 4),
         }
     }
-    false
+
+    fn is_bad(self, _roles: u8) -> bool {
+        if 2 < self.parameter {
+            true
+        } else {
+            (5 < self.operator) | (RANGES[usize::from(self.parameter)] <= self.value)
+        }
+    }
+
+    fn is_nonzero(self) -> bool {
+        (self.parameter != 0) | (self.operator != 0) | (self.value != 0)
+    }
 }
 
 fn context_bad(c: &[u8], i: usize) -> bool
     requires { 16 * i + 16 ≤ length c.now }
     ensures { result ≡ context_bad c.now i }
 {
-    let at = 16 * i;
-    let length = c[at + 1];
-    let slots_bad = context_slots_bad(c, i);
-    let zeros = bytes::get16(c, at + 14);
-    (15 < c[at]) | (length < 1) | (3 < length) | slots_bad | (zeros != 0)
+    (15 < c[16 * i]) | rest_bad::<ContextCondition>(c, i, 0)
 }
 
 // Inner: refusal 7.
-pub fn contexts_bad(c: &[u8]) -> bool
+pub(crate) fn contexts_bad(c: &[u8]) -> bool
     ensures { result ≡ contexts_bad c.now }
 {
-    for i in 0..c.len() / 16 {
-        if context_bad(c, i) {
-            return true;
-        }
-    }
-    false
+    (0..c.len() / 16).any(|i| context_bad(c, i))
 }

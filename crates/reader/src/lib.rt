@@ -7,9 +7,10 @@ ghost use Rattle.reader.specs.Rules.{refusal_of, records_refusal};
 ghost use Rattle.reader.specs.Refusals.{number_of, answer_from};
 
 pub mod bytes;
-mod clauses;
+pub mod clauses;
 pub mod codes;
-mod contexts;
+pub mod conditions;
+pub mod contexts;
 mod records;
 mod refusal;
 mod tables;

@@ -1,6 +1,7 @@
--- `clause_bad` meets its contract: its tests are the definition's.
-use Rattle.reader.proofs.Conditions.{clause_rule}
+use Rattle.folds.proofs.Bools.{not_ltb}
+use Rattle.reader.specs.Rules.{clause_slot_bad, clause_bad}
 use Rattle.reader.proofs.clauses.clause_bad.Goals as goal
 
 pub returns : goal.returns
-returns c = clause_rule _ _ _ _ c.clause_slots_bad-slots_bad.ensures c.get16-zeros.ensures
+unfolding clause_bad clause_slot_bad
+returns c = rw (c.rest_bad.ensures, not_ltb _ c.args.permissions)
