@@ -11,7 +11,7 @@ use crate::{Refusal, Refused, bytes};
 const CODES: [u32; 8] = [3, 5, 7, 11, 13, 17, 19, 23];
 
 // Their inverses modulo 2^32: code times inverse is 1 there.
-const INVERSES: [u64; 8] = [
+const INVERSES: [u32; 8] = [
     2863311531, 3435973837, 3067833783, 3123612579, 3303820997, 4042322161, 678152731, 3921491879,
 ];
 
@@ -29,7 +29,7 @@ fn quotient(r: usize, x: u32) -> u32
     requires { (r < 8) × (code_divides r x ≡ true) }
     ensures { result ≡ x / code_of r }
 {
-    (x as u64 * INVERSES[r] % 4294967296) as u32
+    x.wrapping_mul(INVERSES[r])
 }
 
 // What the check of one parameter tells: whether it passes, and how many codes were tried.
@@ -48,16 +48,12 @@ fn try_codes(table: &[u32], x: u32, roles: u8) -> Tried
 {
     let mut rest = x;
     let mut tried: u8 = 0;
-    for r in 0..table.len() {
-        let code = table[r];
-        if rest == 1 {
-            return Tried { ok: true, tried };
+    for (r, code) in table.iter().enumerate() {
+        if rest == 1 || usize::from(roles) <= r {
+            break;
         }
-        if roles as usize <= r {
-            return Tried { ok: false, tried };
-        }
-        tried = tried + 1;
-        if rest % code == 0 {
+        tried += 1;
+        if rest % *code == 0 {
             rest = quotient(r, rest);
         }
     }
@@ -80,10 +76,7 @@ fn parameter_ok(x: u32, roles: u8) -> bool
 fn roles_read(roles: u32) -> u8
     ensures { (result ≡ roles_read roles) × (result ≤ 8) }
 {
-    if 8 < roles {
-        return 8;
-    }
-    roles as u8
+    roles.min(8) as u8
 }
 
 // Entry point: the check of one parameter with so many roles: 0 or 5; both carry how many codes were tried.
@@ -107,13 +100,9 @@ pub fn held_by(users: &[u8], roles: u8, user: usize, role: usize) -> bool
     requires { roles ≤ 8 }
     ensures { result ≡ held_by roles users.now user role }
 {
-    if users.len() / 4 <= user {
-        return false;
-    }
-    if roles as usize <= role {
-        return false;
-    }
-    code_divides(role, bytes::get32(users, 4 * user))
+    user < users.len() / 4
+        && role < usize::from(roles)
+        && code_divides(role, bytes::get32(users, 4 * user))
 }
 
 // Inner: refusal 5.
@@ -121,10 +110,5 @@ pub fn users_bad(users: &[u8], roles: u8) -> bool
     requires { roles ≤ 8 }
     ensures { result ≡ users_bad roles users.now }
 {
-    for i in 0..users.len() / 4 {
-        if !parameter_ok(bytes::get32(users, 4 * i), roles) {
-            return true;
-        }
-    }
-    false
+    (0..users.len() / 4).any(|i| !parameter_ok(bytes::get32(users, 4 * i), roles))
 }
