@@ -32,7 +32,8 @@ fn quotient(r: usize, x: u32) -> u32
     x.wrapping_mul(INVERSES[r])
 }
 
-// What the check of one parameter tells: whether it passes, and how many codes were tried.
+// What the check of one parameter tells: whether it passes, and how many codes were tried. That number stands in both
+// cases, so an Option or a Result would be no plainer.
 #[derive(Clone, Copy)]
 struct Tried {
     ok: bool,
@@ -41,15 +42,18 @@ struct Tried {
 
 // Tries the codes of the roles below `roles` on the parameter, in role order: one that divides the rest is divided out.
 // Ends as soon as the rest is 1: then the parameter is the product of different codes.
-// The table of codes is lent; docs/PERFORMANCE.md says what the compiler makes of it.
-fn try_codes(table: &[u32], x: u32, roles: u8) -> Tried
-    requires { (table.now ≡ codes) × (roles ≤ 8) }
+// Two tests end it, and not one by `||`: so written the check of a parameter takes half the time (docs/PERFORMANCE.md).
+fn try_codes(x: u32, roles: u8) -> Tried
+    requires { roles ≤ 8 }
     ensures { (result.ok ≡ parameter_ok roles x) × (result.tried ≡ codes_tried roles x) }
 {
     let mut rest = x;
     let mut tried: u8 = 0;
-    for (r, code) in table.iter().enumerate() {
-        if rest == 1 || usize::from(roles) <= r {
+    for (r, code) in CODES.iter().enumerate() {
+        if rest == 1 {
+            break;
+        }
+        if usize::from(roles) <= r {
             break;
         }
         tried += 1;
@@ -68,8 +72,7 @@ fn parameter_ok(x: u32, roles: u8) -> bool
     requires { roles ≤ 8 }
     ensures { result ≡ parameter_ok roles x }
 {
-    let table = CODES;
-    try_codes(&table, x, roles).ok
+    try_codes(x, roles).ok
 }
 
 // Roles above 8 are read as 8.
@@ -83,8 +86,7 @@ fn roles_read(roles: u32) -> u8
 pub fn check_parameter(parameter: u32, roles: u32) -> Result<u32, Refused>
     ensures { answer_from result ≡ parameter_answer roles parameter }
 {
-    let table = CODES;
-    let t = try_codes(&table, parameter, roles_read(roles));
+    let t = try_codes(parameter, roles_read(roles));
     let count = t.tried as u32;
     if t.ok {
         return Ok(count);

@@ -7,7 +7,7 @@ ghost use Rattle.reader.specs.Rules.{slot_bad, rest_bad};
 use crate::bytes;
 
 // Inner: a condition, as the slots of a table have it.
-pub trait Condition: Copy + Drop {
+pub trait Condition: Copy {
     // The slots of a record.
     const SLOTS: usize;
 

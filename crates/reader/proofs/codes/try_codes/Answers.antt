@@ -13,7 +13,8 @@ use Rattle.reader.proofs.Trying.{wider, tried_refused, tried_least}
 use Rattle.reader.proofs.codes.try_codes.Invariants.{Turn}
 use Rattle.reader.proofs.codes.try_codes.Goals as goal
 use Rattle.reader.proofs.codes.try_codes.Goals.{then-rest-code-eq0, else-rest-code-eq0}
-use Rattle.reader.proofs.codes.try_codes.Goals.{else-loop-r-test, then-loop-r-test+then-rest-eq1, then-rest-eq1-via-then-rest-eq1, then-rest-eq1-via-else-rest-eq1+then-from-r}
+use Rattle.reader.proofs.codes.try_codes.Goals.{else-loop-r-test, then-loop-r-test+then-rest-eq1}
+use Rattle.reader.proofs.codes.try_codes.Goals.{then-loop-r-test+else-rest-eq1+then-from-r}
 
 first : (x roles : ℕ) → Turn x roles x 0 0
 first x roles = record { counted = refl; upto = sym (rest_none x); yet = none_at_first }
@@ -73,44 +74,28 @@ module _ {x roles rest tried r : ℕ} (few : roles ≤ 8) (turn : Turn x roles r
     kept : {now : ℕ} → code_divides r rest ≡ false → now ≡ rest → Turn x roles now (tried + 1) (r + 1)
     kept h e = let same = turn.upto in further (e ∙ (same ∙ sym (rest_left r x (rw same at h))))
 
--- the table lent is that of the codes
-module _ {table : List ℕ} (are : table ≡ codes) where
-  size : length table ≡ 8
-  size = ap length are
-
-  code_at : (r : ℕ) → get_or table r 0 ≡ code_of r
-  code_at r = ap (λ (t : List ℕ). get_or t r 0) are
-
-  divides : (r y : ℕ) → y % get_or table r 0 ≡ 0 → code_divides r y ≡ true
-  divides r y h = eq-eqb _ _ (rw (code_at r) at h)
-
-  divides_not : (r y : ℕ) → (y % get_or table r 0 ≡ 0 → ⊥) → code_divides r y ≡ false
-  divides_not r y h = ne_eqb _ _ (rw (code_at r) at h)
-
 pub loop-r-init : goal.loop-r-init
 loop-r-init c = first c.args.x c.args.roles
 
 pub loop-r-preserved : goal.loop-r-preserved
 loop-r-preserved c =
-    let (are, few) = c.requires in
+    let few = c.requires in
     let l = c.loop-r in
     let low : l.r < c.args.roles = omega (arith, c.from.ensures, c.if-from-r.false) in
     let left = c.if-rest-eq1.false in
     elim c.if-rest-code-eq0.branch [
       | then-rest-code-eq0 w ↦ divided few l.invariant low left
-          (divides are l.r l.rest w.if-rest-code-eq0.true) (w.rest-is ∙ w.quotient-rest.ensures)
+          (eq-eqb _ _ w.if-rest-code-eq0.true) (w.rest-is ∙ w.quotient-rest.ensures)
       | else-rest-code-eq0 w ↦ kept few l.invariant low left
-          (divides_not are l.r l.rest w.if-rest-code-eq0.false) w.rest-is
+          (ne_eqb _ _ w.if-rest-code-eq0.false) w.rest-is
     ]
 
 pub returns : goal.returns
 returns c =
     let last : (c.loop-r.rest ≡ 1 → ⊥) → c.args.roles ≤ c.loop-r.r =
     elim c.loop-r-test.branch [
-      | else-loop-r-test w ↦ λ some. omega (arith, size c.requires.0)
-      | then-loop-r-test+then-rest-eq1 w ↦ elim w.then-rest-eq1.branch [
-          | then-rest-eq1-via-then-rest-eq1 w' ↦ λ some. absurd (some w'.if-rest-eq1.true)
-          | then-rest-eq1-via-else-rest-eq1+then-from-r w' ↦ λ some. omega arith
-        ]
+      | else-loop-r-test w ↦ λ some. omega arith
+      | then-loop-r-test+then-rest-eq1 w ↦ λ some. absurd (some w.if-rest-eq1.true)
+      | then-loop-r-test+else-rest-eq1+then-from-r w ↦ λ some. omega arith
     ] in
-    over c.requires.1 c.loop-r.invariant last
+    over c.requires c.loop-r.invariant last
