@@ -3,11 +3,8 @@ ghost use Rattle.std.specs.Prelude.{◌≡◌, ◌+◌, ◌*◌, ◌≤◌, ◌<
 ghost use Rattle.reader.specs.Fields.{context_parameter, context_operator, context_value};
 ghost use Rattle.reader.specs.Rules.{context_condition_bad, some_nonzero, context_bad, contexts_bad};
 
-use crate::bytes;
 use crate::conditions::{Condition, rest_bad};
-
-// How many values a context's parameter has: minute, day, zone.
-const RANGES: [u16; 3] = [1440, 7, 256];
+use crate::{RANGES, bytes};
 
 // Inner: a condition on a context.
 #[derive(Clone, Copy)]

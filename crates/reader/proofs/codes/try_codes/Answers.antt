@@ -1,13 +1,13 @@
 -- `try_codes` meets its contract: before role r is tried, as many codes were, the rest is what they left of the
 -- parameter, and it wasn't 1 before. A turn is argued of plain values.
-use Rattle.std.proofs.Common.{ℕ, ◌+◌, ◌/◌, ◌%◌, ◌<◌, ◌≤◌, true, false, List, ◌≡◌, refl, sym, ap, ◌∙◌}
-use Rattle.std.proofs.Common.{length, get_or, eqb, arith}
+use Rattle.std.proofs.Common.{ℕ, ◌+◌, ◌/◌, ◌<◌, ◌≤◌, true, false, ◌≡◌, refl, sym, ap, ◌∙◌}
+use Rattle.std.proofs.Common.{eqb, arith}
 use mathlib.Core.Logic.{⊎_elim}
 use borrow.Author.Tests.{eqb-true, eq-eqb, ne_eqb}
 use Rattle.folds.proofs.Bools.{met_or_not, clash}
 use Rattle.folds.proofs.Tests.{any_at}
 use Rattle.folds.proofs.Searches.{none_at_first, none_further}
-use Rattle.reader.specs.Codes.{codes, code_of, code_divides, parameter_ok, codes_tried}
+use Rattle.reader.specs.Codes.{code_of, code_divides, parameter_ok, codes_tried}
 use Rattle.reader.proofs.Parameter.{rest_of, rest_none, rest_taken, rest_left, rest_one}
 use Rattle.reader.proofs.Trying.{wider, tried_refused, tried_least}
 use Rattle.reader.proofs.codes.try_codes.Invariants.{Turn}
