@@ -19,7 +19,7 @@ use Rattle.std.proofs.lemmas.Iterator.Consumers.{sum_from_yields_List, fits_from
 use Rattle.std.proofs.lemmas.List.FromFn.{sum_by-map-range_with_len_more}
 use Rattle.folds.specs.Below.{sum_below}
 
-sum_chain : (f : ℕ → ℕ) (n : ℕ) → sum (map f (range_with_len 0 n)) ≡ sum_below n f
+pub sum_chain : (f : ℕ → ℕ) (n : ℕ) → sum (map f (range_with_len 0 n)) ≡ sum_below n f
 unfolding sum_below
 sum_chain f zero = refl
 sum_chain f (suc n) =
