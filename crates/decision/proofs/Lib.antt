@@ -1,3 +1,4 @@
 pub mod Agree
 pub mod Granting
 pub mod Heads
+pub mod Chains

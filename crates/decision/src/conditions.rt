@@ -8,57 +8,50 @@ ghost use Rattle.decision.specs.Conditions.{role_num, attribute, condition_holds
 pub fn role_num(set: u8) -> u32
     ensures { result ≡ role_num set }
 {
-    u8::count_ones(set)
+    set.count_ones()
 }
 
-fn attribute_of(n: u32, sum: u32, set: u8, a: u8) -> u32
-    ensures { result ≡ attribute n sum set a }
-{
-    if a == 0 {
-        return n;
+// What conditions are asked of a group: how many entries it has, the sum of their weights and the set of their roles.
+#[derive(Clone, Copy)]
+pub struct Attributes {
+    pub entries: u32,
+    pub sum: u32,
+    pub roles: u8,
+}
+
+impl Attributes {
+    fn attribute(self, a: u8) -> u32
+        ensures { result ≡ attribute self.entries self.sum self.roles a }
+    {
+        match a {
+            0 => self.entries,
+            1 => self.sum,
+            2 => role_num(self.roles),
+            _ => self.roles as u32,
+        }
     }
-    if a == 1 {
-        return sum;
-    }
-    if a == 2 {
-        return role_num(set);
-    }
-    set as u32
 }
 
 // Condition j of clause i.
-fn condition_holds(k: &[u8], i: usize, j: usize, n: u32, sum: u32, set: u8) -> bool
+fn condition_holds(k: &[u8], i: usize, j: usize, attributes: Attributes) -> bool
     requires { (16 * i + 16 ≤ length k.now) × (j < 4) }
-    ensures { result ≡ condition_holds k.now n sum set i j }
+    ensures { result ≡ condition_holds k.now attributes.entries attributes.sum attributes.roles i j }
 {
     let at = 16 * i + 3 * j;
-    let x = attribute_of(n, sum, set, k[at + 2]);
-    weights::operators::is_met(k[at + 3], x, k[at + 4] as u32)
+    weights::operators::is_met(k[at + 3], attributes.attribute(k[at + 2]), k[at + 4] as u32)
 }
 
-fn clause_holds(k: &[u8], i: usize, n: u32, sum: u32, set: u8) -> bool
+fn clause_holds(k: &[u8], i: usize, attributes: Attributes) -> bool
     requires { (16 * i + 16 ≤ length k.now) × (clause_length k.now i ≤ 4) }
-    ensures { result ≡ clause_holds k.now n sum set i }
+    ensures { result ≡ clause_holds k.now attributes.entries attributes.sum attributes.roles i }
 {
-    for j in 0..k[16 * i + 1] as usize {
-        if !condition_holds(k, i, j, n, sum, set) {
-            return false;
-        }
-    }
-    true
+    (0..k[16 * i + 1] as usize).all(|j| condition_holds(k, i, j, attributes))
 }
 
 // Inner: the permission's condition, by a table K whose clauses have at most 4 conditions.
-pub fn permission_holds(k: &[u8], permission: u8, n: u32, sum: u32, set: u8) -> bool
+pub fn permission_holds(k: &[u8], permission: u8, attributes: Attributes) -> bool
     requires { (i : ℕ) → i < record_count clauses k.now → clause_length k.now i ≤ 4 }
-    ensures { result ≡ permission_holds k.now permission n sum set }
+    ensures { result ≡ permission_holds k.now permission attributes.entries attributes.sum attributes.roles }
 {
-    for i in 0..k.len() / 16 {
-        if k[16 * i] == permission {
-            if clause_holds(k, i, n, sum, set) {
-                return true;
-            }
-        }
-    }
-    false
+    (0..k.len() / 16).any(|i| k[16 * i] == permission && clause_holds(k, i, attributes))
 }

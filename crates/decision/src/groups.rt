@@ -1,63 +1,61 @@
 // A group's entries and its attributes: refusals 12 to 16.
-ghost use Rattle.std.specs.Prelude.{◌≡◌, ℕ, ◌*◌, ◌≤◌, ◌<◌, length, get_or};
+ghost use Rattle.std.specs.Prelude.{◌≡◌, ℕ, ◌+◌, ◌*◌, ◌≤◌, ◌<◌, length, get_or};
 ghost use Rattle.reader.specs.Tables.{hierarchy, table_of};
 ghost use Rattle.reader.specs.Rules.{refusal_of};
 ghost use Rattle.weights.specs.Acting.{may_act};
 ghost use Rattle.weights.specs.Setting.{Juniors};
-ghost use Rattle.decision.specs.Groups.{entry_count, entry_role, sum_of, roles_of, length_refused, some_unknown};
+ghost use Rattle.decision.specs.Groups.{entry_count, entry_user, entry_role, sum_of, roles_of, length_refused, some_unknown};
 ghost use Rattle.decision.specs.Groups.{stands_before, some_twice, some_ineligible, some_weightless};
+
+// An entry of a group: a user, and the role acted in.
+#[derive(Clone, Copy)]
+pub struct Entry {
+    pub user: u8,
+    pub role: u8,
+}
+
+impl Entry {
+    // Inner: entry i of a group.
+    pub fn of(g: &[u8], i: usize) -> Entry
+        requires { 2 * i + 2 ≤ length g.now }
+        ensures { (result.user ≡ entry_user g.now i) × (result.role ≡ entry_role g.now i) }
+    {
+        Entry {
+            user: g[2 * i],
+            role: g[2 * i + 1],
+        }
+    }
+}
 
 // Inner: refusal 12.
 pub fn length_refused(g: &[u8]) -> bool
     ensures { result ≡ length_refused g.now }
 {
-    if g.len() == 0 {
-        return true;
-    }
-    if g.len() % 2 != 0 {
-        return true;
-    }
-    12 < g.len()
+    g.is_empty() || g.len() % 2 != 0 || 12 < g.len()
 }
 
 // Inner: refusal 13.
 pub fn some_unknown(g: &[u8], users: usize, roles: u8) -> bool
     ensures { result ≡ some_unknown users roles g.now }
 {
-    for i in 0..g.len() / 2 {
-        let at = 2 * i;
-        if users <= g[at] as usize {
-            return true;
-        }
-        if roles <= g[at + 1] {
-            return true;
-        }
-    }
-    false
+    (0..g.len() / 2).any(|i| {
+        let Entry { user, role } = Entry::of(g, i);
+        users <= user as usize || roles <= role
+    })
 }
 
 fn stands_before(g: &[u8], i: usize) -> bool
-    requires { 2 * i < length g.now }
+    requires { 2 * i + 2 ≤ length g.now }
     ensures { result ≡ stands_before g.now i }
 {
-    for j in 0..i {
-        if g[2 * j] == g[2 * i] {
-            return true;
-        }
-    }
-    false
+    (0..i).any(|j| Entry::of(g, j).user == Entry::of(g, i).user)
 }
 
 // Inner: refusal 14.
 pub fn some_twice(g: &[u8]) -> bool
     ensures { result ≡ some_twice g.now }
 {
-    for i in 0..g.len() / 2 {
-        if stands_before(g, i) {
-            return true;
-        }
-    }
-    false
+    (0..g.len() / 2).any(|i| stands_before(g, i))
 }
 
 // Inner: refusal 15, by an accepted base with these juniors.
@@ -65,13 +63,10 @@ pub fn some_ineligible(g: &[u8], base: &[u8], juniors: [u8; 8]) -> bool
     requires { (refusal_of base.now ≡ 0) × Juniors (table_of base.now hierarchy) juniors }
     ensures { result ≡ some_ineligible (may_act base.now) g.now }
 {
-    for i in 0..g.len() / 2 {
-        let at = 2 * i;
-        if !weights::acting::may_act(base, juniors, g[at] as usize, g[at + 1] as usize) {
-            return true;
-        }
-    }
-    false
+    (0..g.len() / 2).any(|i| {
+        let Entry { user, role } = Entry::of(g, i);
+        !weights::acting::may_act(base, juniors, user as usize, role as usize)
+    })
 }
 
 // Inner: refusal 16, for roles below 8.
@@ -79,12 +74,7 @@ pub fn some_weightless(g: &[u8], w: [u8; 8]) -> bool
     requires { (i : ℕ) → i < entry_count g.now → entry_role g.now i < 8 }
     ensures { result ≡ some_weightless (λ k. get_or w k 0) g.now }
 {
-    for i in 0..g.len() / 2 {
-        if w[g[2 * i + 1] as usize] == 0 {
-            return true;
-        }
-    }
-    false
+    (0..g.len() / 2).any(|i| w[Entry::of(g, i).role as usize] == 0)
 }
 
 // Inner: the number of entries of a group that is not too long.
@@ -102,11 +92,9 @@ pub fn sum_of(g: &[u8], w: [u8; 8]) -> u32
         ((r : ℕ) → r < 8 → get_or w r 0 ≤ 40) }
     ensures { (result ≡ sum_of (λ k. get_or w k 0) g.now) × (result ≤ 240) }
 {
-    let mut sum: u32 = 0;
-    for i in 0..g.len() / 2 {
-        sum = sum + w[g[2 * i + 1] as usize] as u32;
-    }
-    sum
+    (0..g.len() / 2)
+        .map(|i| w[Entry::of(g, i).role as usize] as u32)
+        .sum()
 }
 
 // Inner: the set of the roles acted in.
@@ -114,9 +102,8 @@ pub fn roles_of(g: &[u8]) -> u8
     requires { (i : ℕ) → i < entry_count g.now → entry_role g.now i < 8 }
     ensures { result ≡ roles_of g.now }
 {
-    let mut set: u8 = 0;
-    for i in 0..g.len() / 2 {
-        set = set | weights::sets::role_bit(g[2 * i + 1]);
-    }
-    set
+    (0..g.len() / 2).fold(
+        0,
+        |set, i| set | weights::sets::role_bit(Entry::of(g, i).role),
+    )
 }

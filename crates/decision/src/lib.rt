@@ -15,6 +15,8 @@ use weights::{Context, Fixed};
 pub mod conditions;
 pub mod groups;
 
+use conditions::Attributes;
+
 // Entry point: whether the group is granted; else the first refusal of 1 to 17 that applies.
 pub fn decide(base: &[u8], permission: u32, at: Context, group: &[u8]) -> Result<(), Refusal>
     ensures { number_of result ≡ decision_of base.now at permission group.now }
@@ -91,14 +93,12 @@ pub fn decide_checked(base: &[u8], permission: u8, s: Fixed, group: &[u8]) -> Re
         return Err(Refusal::Weightless);
     }
     let k = reader::trailer::part(base, reader::Table::Clauses);
-    let n = groups::entry_count(group);
-    if conditions::permission_holds(
-        k,
-        permission,
-        n,
-        groups::sum_of(group, w),
-        groups::roles_of(group),
-    ) {
+    let attributes = Attributes {
+        entries: groups::entry_count(group),
+        sum: groups::sum_of(group, w),
+        roles: groups::roles_of(group),
+    };
+    if conditions::permission_holds(k, permission, attributes) {
         return Ok(());
     }
     Err(Refusal::Unmet)

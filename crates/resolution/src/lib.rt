@@ -12,33 +12,17 @@ fn is_repeated(list: &[u8], k: usize) -> bool
     requires { k < length list.now }
     ensures { result ≡ repeated list.now k }
 {
-    for j in 0..k {
-        if list[j] == list[k] {
-            return true;
-        }
-    }
-    false
+    list[..k].contains(&list[k])
 }
 
 // Refusal 22.
 fn list_refused(list: &[u8]) -> bool
     ensures { result ≡ list_refused list.now }
 {
-    if list.len() == 0 {
+    if list.is_empty() || 3 < list.len() {
         return true;
     }
-    if 3 < list.len() {
-        return true;
-    }
-    for k in 0..list.len() {
-        if is_repeated(list, k) {
-            return true;
-        }
-        if 2 < list[k] {
-            return true;
-        }
-    }
-    false
+    (0..list.len()).any(|k| is_repeated(list, k) || 2 < list[k])
 }
 
 // Inner: refusals 1 to 9 of the base and 22 of the list.
@@ -58,13 +42,12 @@ pub fn rules_of(list: &[u8]) -> [u8; 3]
     ensures { (length result ≡ 3) × (take (length list.now) result ≡ list.now) }
 {
     let mut rules = [0u8; 3];
-    for k in 0..list.len() {
-        rules[k] = list[k];
-    }
+    rules[..list.len()].copy_from_slice(list);
     rules
 }
 
 // The rule puts policy i of the table A before policy j.
+// The rule stays a byte: `goes_before` is lent any bytes, and an enum would first be made of each by a match like this.
 fn rule_before(rule: u8, a: &[u8], i: usize, j: usize) -> bool
     requires { (8 * i + 8 ≤ length a.now) × (8 * j + 8 ≤ length a.now) }
     ensures { result ≡ rule_before rule a.now i j }
@@ -84,8 +67,7 @@ pub fn goes_before(list: &[u8], a: &[u8], i: usize, j: usize) -> bool
     requires { (8 * i + 8 ≤ length a.now) × (8 * j + 8 ≤ length a.now) }
     ensures { result ≡ goes_before list.now a.now i j }
 {
-    for k in 0..list.len() {
-        let rule = list[k];
+    for &rule in list {
         if rule_before(rule, a, i, j) {
             return true;
         }

@@ -9,6 +9,7 @@ ghost use Rattle.decision.specs.Groups.{entry_count, entry_role};
 ghost use Rattle.shift.specs.Shift.{distance, change_refused, bound_answer};
 ghost use Rattle.shift.specs.Counting.{at_or_above, entries_at_or_above};
 
+use decision::groups::Entry;
 use reader::{Refusal, Refused};
 
 // Entry point: by how much, at most, the group's sum of weights shifts where the policy gets this weight; refusals 1 to
@@ -30,13 +31,7 @@ pub fn bound(base: &[u8], policy: u32, weight: u32, group: &[u8]) -> Result<u32,
 fn change_refused(count: usize, policy: u32, weight: u32) -> bool
     ensures { result ≡ change_refused count policy weight }
 {
-    if count <= policy as usize {
-        return true;
-    }
-    if weight < 1 {
-        return true;
-    }
-    5 < weight
+    count <= policy as usize || !(1..=5).contains(&weight)
 }
 
 // The bound, by the table A, the juniors of each role and a group of at most 6 entries, in roles below 8.
@@ -49,18 +44,8 @@ fn bound_of(a: &[u8], juniors: [u8; 8], policy: usize, weight: u8, group: &[u8])
         * entries_at_or_above juniors (policy_role a.now policy) group.now }
 {
     let at = 8 * policy;
-    let difference = difference_of(a[at + 2], weight);
+    let difference = a[at + 2].abs_diff(weight) as u32;
     difference * entries_at_or_above(juniors, a[at], group)
-}
-
-// The difference of two weights.
-fn difference_of(x: u8, y: u8) -> u32
-    ensures { (result ≡ distance x y) × (result ≤ 255) }
-{
-    if x < y {
-        return (y - x) as u32;
-    }
-    (x - y) as u32
 }
 
 // How many entries act in this role or in a senior of it.
@@ -70,13 +55,9 @@ fn entries_at_or_above(juniors: [u8; 8], role: u8, group: &[u8]) -> u32
         ((k : ℕ) → k < entry_count group.now → entry_role group.now k < 8) }
     ensures { (result ≡ entries_at_or_above juniors role group.now) × (result ≤ 6) }
 {
-    let mut count: u32 = 0;
-    for k in 0..group.len() / 2 {
-        if is_at_or_above(juniors, role, group[2 * k + 1]) {
-            count = count + 1;
-        }
-    }
-    count
+    (0..group.len() / 2)
+        .filter(|&k| is_at_or_above(juniors, role, Entry::of(group, k).role))
+        .count() as u32
 }
 
 // Role r is this role or a senior of it.

@@ -101,8 +101,8 @@ returns-then-some_weightless c =
 pub part-k-requires : goal.part-k-requires
 part-k-requires c = (accepted _ c.requires.0).frame
 
-pub entry_count-n-requires : goal.entry_count-n-requires
-entry_count-n-requires c = (known c.requires.0 (sym c.in_ok-members_refusal.ensures)).few
+pub entry_count-requires : goal.entry_count-requires
+entry_count-requires c = (known c.requires.0 (sym c.in_ok-members_refusal.ensures)).few
 
 pub sum_of-requires : goal.sum_of-requires
 sum_of-requires c =
@@ -122,7 +122,7 @@ returns-then-permission_holds c =
     let k = known c.requires.0 (sym c.in_ok-members_refusal.ensures) in
     let are = c.role_weights-w.ensures _ _ _ c.requires.0 c.choose.ensures c.requires.2.juniors in
     by_0 _ _ _ _ _ k (weightless_is _ _ _ _ _ k are c.if-some_weightless.ensures)
-    (holds_is _ _ _ _ _ k are c.if-permission_holds.ensures c.part-k.ensures c.entry_count-n.ensures
+    (holds_is _ _ _ _ _ k are c.if-permission_holds.ensures c.part-k.ensures c.entry_count.ensures
     c.sum_of.ensures.0 c.roles_of.ensures)
 
 pub returns : goal.returns
@@ -130,5 +130,5 @@ returns c =
     let k = known c.requires.0 (sym c.in_ok-members_refusal.ensures) in
     let are = c.role_weights-w.ensures _ _ _ c.requires.0 c.choose.ensures c.requires.2.juniors in
     by_17 _ _ _ _ _ k (weightless_is _ _ _ _ _ k are c.if-some_weightless.ensures)
-    (holds_is _ _ _ _ _ k are c.if-permission_holds.ensures c.part-k.ensures c.entry_count-n.ensures
+    (holds_is _ _ _ _ _ k are c.if-permission_holds.ensures c.part-k.ensures c.entry_count.ensures
     c.sum_of.ensures.0 c.roles_of.ensures)

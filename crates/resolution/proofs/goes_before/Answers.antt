@@ -1,4 +1,4 @@
--- `goes_before` meets its contract: at turn k no rule before k has told the two policies apart.
+-- `goes_before` meets its contract: at rule k no rule before it has told the two policies apart.
 use Rattle.std.proofs.Common.{ℕ, suc, ◌+◌, ◌≤◌, ◌<◌, Bool, true, false, cond, ◌||◌, List, ◌≡◌, sym, ◌∙◌}
 use Rattle.std.proofs.Common.{length, get_or, drop, ltb, arith, add-one, drop-cons}
 use lib.ListN.{drop_of_length-le}
@@ -41,17 +41,17 @@ module _ {list a : List ℕ} {i j k : ℕ} (turn : Turn list a i j k) where
 
 pub returns-then-rule_before : goal.returns-then-rule_before
 returns-then-rule_before c =
-    first c.loop-k.invariant c.loop-k-test.true c.rule_before.ensures c.if-rule_before.true
+    first c.loop-rule.invariant c.loop-rule-test.true c.rule_before.ensures c.if-rule_before.true
 
 pub returns-then-rule_before-2 : goal.returns-then-rule_before-2
 returns-then-rule_before-2 c =
-    second c.loop-k.invariant c.loop-k-test.true c.rule_before.ensures c.if-rule_before.false
-    c.rule_before-in-loop-k.ensures c.if-rule_before-2.true
+    second c.loop-rule.invariant c.loop-rule-test.true c.rule_before.ensures c.if-rule_before.false
+    c.rule_before-in-loop-rule.ensures c.if-rule_before-2.true
 
-pub loop-k-preserved : goal.loop-k-preserved
-loop-k-preserved c =
-    again c.loop-k.invariant c.loop-k-test.true c.rule_before.ensures c.if-rule_before.false
-    c.rule_before-in-loop-k.ensures c.if-rule_before-2.false
+pub loop-rule-preserved : goal.loop-rule-preserved
+loop-rule-preserved c =
+    again c.loop-rule.invariant c.loop-rule-test.true c.rule_before.ensures c.if-rule_before.false
+    c.rule_before-in-loop-rule.ensures c.if-rule_before-2.false
 
 pub returns : goal.returns
-returns c = ended c.loop-k.invariant c.loop-k-test.false
+returns c = ended c.loop-rule.invariant c.loop-rule-test.false

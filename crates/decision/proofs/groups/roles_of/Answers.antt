@@ -1,40 +1,48 @@
--- `roles_of` meets its contract: the loop adds each entry's role to the set.
-use Rattle.std.proofs.Common.{ℕ, List, length, ◌≡◌, ◌≤◌, ◌<◌, ◌+◌, ◌/◌, arith}
-use Prim.Native.Nat.{◌^◌}
-use mathlib.Core.Path.{sym, ◌∙◌}
-use lib.Bits.{bit_or, or_lt}
-use lib.Dec.{lit<}
+-- `roles_of` meets its contract: the fold adds each entry's role to the set.
+use Rattle.std.proofs.Common.{ℕ, zero, suc, List, ◌≡◌, ◌≤◌, ◌<◌, ◌/◌, ◌^◌, ◌||◌, sym, ap, ◌∙◌, length, bit_or, rules, arith}
+use lib.Bits.{or_lt}
+use lib.Dec.{lit<, eqb}
 use lib.Pow.{pow-lt}
+use Rattle.std.specs.List.{fold, range_with_len}
+use Rattle.std.proofs.lemmas.Iterator.{YieldsList-from_range}
+use Rattle.std.proofs.lemmas.Iterator.Consumers.{fold_from_yields_List}
+use Rattle.folds.specs.Below.{any_below}
+use Rattle.folds.specs.Sets.{in_set}
 use Rattle.folds.proofs.Sets.{in_none, in_added, same_set, set_lt, in_set_lem}
-use Rattle.folds.proofs.Tests.{any_none, any_next}
 use Rattle.decision.specs.Groups.{entry_role, acted_in, roles_of}
-use Rattle.decision.proofs.groups.roles_of.Invariants.{Turn}
+use Rattle.decision.proofs.Chains.{fold_more}
 use Rattle.decision.proofs.groups.roles_of.Goals as goal
 
-at_first : (g : List ℕ) → Turn g 0 0
-at_first g = record { within = omega arith; small = lit< tt; has = λ r. in_none r ∙ sym (any_none _) }
+module _ (g : List ℕ) where
+  abbrev with_role : ℕ → ℕ → ℕ
+  with_role set i = bit_or set (2 ^ entry_role g i)
 
-module _ {g : List ℕ} {set i : ℕ} (turn : Turn g set i) where
-  more : {bit : ℕ} → i < length g / 2 → entry_role g i < 8 → bit ≡ 2 ^ entry_role g i → Turn g (bit_or set bit) (i + 1)
-  more {bit} some low is = record {
-    within = omega arith;
-    small = or_lt 8 set bit turn.small (rw is (pow-lt low));
-    has = λ r. rw is (in_added set (entry_role g i) r ∙ rw (turn.has r, any_next));
-  }
+  -- the roles of the first n entries
+  abbrev of_first : ℕ → ℕ
+  of_first n = fold with_role 0 (range_with_len 0 n)
 
-  done : length g / 2 ≤ i → set ≡ roles_of g
-  unfolding roles_of acted_in
-  done end =
-      let all : i ≡ length g / 2 = omega (arith, turn.within) in
-      same_set 8 set (roles_of g) turn.small (set_lt (acted_in g) 8)
-      (λ r m. rw (turn.has r, all) (sym (in_set_lem (acted_in g) 8 r m)))
+  has : (n r : ℕ) → in_set (of_first n) r ≡ any_below n (λ k. eqb (entry_role g k) r)
+  unfolding any_below
+  has zero r = in_none r
+  has (suc n) r =
+      ap (λ s. in_set s r) (fold_more with_role 0 n) ∙ in_added (of_first n) (entry_role g n) r
+      ∙ ap (λ t. t || eqb (entry_role g n) r) (has n r)
 
-pub loop-i-init : goal.loop-i-init
-loop-i-init c = at_first _
+  module _ (low : (i : ℕ) → i < length g / 2 → entry_role g i < 8) where
+    small : (n : ℕ) → n ≤ length g / 2 → of_first n < 2 ^ 8
+    small zero h = lit< tt
+    small (suc n) h =
+        rw (fold_more with_role 0 n)
+        (or_lt 8 (of_first n) (2 ^ entry_role g n) (small n (omega arith)) (pow-lt (low n (omega arith))))
 
-pub loop-i-preserved : goal.loop-i-preserved
-loop-i-preserved c =
-    more c.loop-i.invariant c.loop-i-test.true (c.requires c.loop-i.i c.loop-i-test.true) c.role_bit-set.ensures
+    all : of_first (length g / 2) ≡ roles_of g
+    unfolding roles_of acted_in
+    all =
+        same_set 8 (of_first (length g / 2)) (roles_of g) (small (length g / 2) (omega arith)) (set_lt (acted_in g) 8)
+        (λ r m. has (length g / 2) r ∙ sym (in_set_lem (acted_in g) 8 r m))
 
 pub returns : goal.returns
-returns c = done c.loop-i.invariant c.loop-i-test.false
+returns c =
+    fold_from_yields_List _ (with_role c.args.g.now) _ _ c.fold.ensures.ran
+    (YieldsList-from_range 0 (length c.args.g.now / 2) (length c.args.g.now / 2) (cc) (omega arith))
+    (λ a x b q k. search rules) ∙ all c.args.g.now c.requires

@@ -1,21 +1,13 @@
 -- `some_ineligible` meets its contract: it looks for an entry whose user may not act in its role.
+use Rattle.std.proofs.Common.{rules, tests, length, ◌/◌}
 use mathlib.Core.Bool.{not}
-use mathlib.Core.Path.{sym, ap}
-use Rattle.folds.proofs.Searches.{none_at_first, none_further, one_found, none_found}
-use Rattle.decision.specs.Groups.{some_ineligible}
+use Rattle.weights.specs.Acting.{may_act}
+use Rattle.folds.proofs.Chains.{any_of_range}
+use Rattle.decision.specs.Groups.{entry_user, entry_role, some_ineligible}
 use Rattle.decision.proofs.groups.some_ineligible.Goals as goal
-
-pub loop-i-init : goal.loop-i-init
-loop-i-init c = none_at_first
-
-pub returns-then-not-may_act : goal.returns-then-not-may_act
-unfolding some_ineligible
-returns-then-not-may_act c =
-    one_found c.loop-i.invariant c.loop-i-test.true (ap not (sym c.if-not-may_act.ensures))
-
-pub loop-i-preserved : goal.loop-i-preserved
-loop-i-preserved c = none_further c.loop-i.invariant c.loop-i-test.true (ap not (sym c.if-not-may_act.ensures))
 
 pub returns : goal.returns
 unfolding some_ineligible
-returns c = none_found c.loop-i.invariant c.loop-i-test.false
+returns c =
+    any_of_range (λ i. not (may_act c.args.base.now (entry_user c.args.g.now i) (entry_role c.args.g.now i))) (length c.args.g.now / 2) _ _ _ (cc)
+    (λ x b q k. search (rules, tests)) c.any.ensures.ran

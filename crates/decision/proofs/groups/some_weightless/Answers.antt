@@ -1,19 +1,12 @@
 -- `some_weightless` meets its contract: it looks for an entry whose role has weight 0.
-use borrow.Author.Tests.{ne_eqb, eq-eqb}
-use Rattle.folds.proofs.Searches.{none_at_first, none_further, one_found, none_found}
-use Rattle.decision.specs.Groups.{some_weightless}
+use Rattle.std.proofs.Common.{rules, tests, length, get_or, ◌/◌}
+use lib.Dec.{eqb}
+use Rattle.folds.proofs.Chains.{any_of_range}
+use Rattle.decision.specs.Groups.{entry_role, some_weightless}
 use Rattle.decision.proofs.groups.some_weightless.Goals as goal
-
-pub loop-i-init : goal.loop-i-init
-loop-i-init c = none_at_first
-
-pub returns-then-w-g-eq0 : goal.returns-then-w-g-eq0
-unfolding some_weightless
-returns-then-w-g-eq0 c = one_found c.loop-i.invariant c.loop-i-test.true (eq-eqb _ _ c.if-w-g-eq0.true)
-
-pub loop-i-preserved : goal.loop-i-preserved
-loop-i-preserved c = none_further c.loop-i.invariant c.loop-i-test.true (ne_eqb _ _ c.if-w-g-eq0.false)
 
 pub returns : goal.returns
 unfolding some_weightless
-returns c = none_found c.loop-i.invariant c.loop-i-test.false
+returns c =
+    any_of_range (λ i. eqb (get_or c.args.w (entry_role c.args.g.now i) 0) 0) (length c.args.g.now / 2) _ _ _ (cc)
+    (λ x b q k. search (rules, tests)) c.any.ensures.ran

@@ -1,35 +1,31 @@
--- `sum_of` meets its contract: the loop adds up the weights of the entries' roles, each at most 40.
-use Rattle.std.proofs.Common.{ℕ, List, length, get_or, ◌≡◌, ◌≤◌, ◌<◌, ◌+◌, ◌/◌, arith}
-use mathlib.Core.Path.{sym}
-use Rattle.folds.proofs.Numbers.{sum_none, sum_more}
-use Rattle.decision.specs.Groups.{sum_of}
-use Rattle.decision.proofs.groups.sum_of.Invariants.{Turn, weight_at}
+-- `sum_of` meets its contract: at most 6 weights of at most 40 are added.
+use Rattle.std.proofs.Common.{ℕ, List, ◌≤◌, ◌<◌, ◌/◌, length, get_or, rules, arith}
+use Rattle.folds.specs.Below.{sum_below}
+use Rattle.folds.proofs.Numbers.{sum_le}
+use Rattle.decision.specs.Groups.{entry_role, sum_of}
+use Rattle.decision.proofs.Chains.{sum_of_range, fits_of_range}
 use Rattle.decision.proofs.groups.sum_of.Goals as goal
 
-at_first : (g w : List ℕ) → Turn g w 0 0
-at_first g w = record { within = omega arith; is = sym (sum_none (weight_at w g)); most = omega arith }
+abbrev weight_at : List ℕ → List ℕ → ℕ → ℕ
+weight_at w g i = get_or w (entry_role g i) 0
 
-module _ {g w : List ℕ} {sum i : ℕ} (turn : Turn g w sum i) (few : length g ≤ 12) where
-  more : i < length g / 2 → weight_at w g i ≤ 40 → Turn g w (sum + weight_at w g i) (i + 1)
-  more some light = record {
-    within = omega arith;
-    is = rw (sum_more (weight_at w g) i, turn.is);
-    most = omega (arith, turn.most);
-  }
+most : (w g : List ℕ) → length g ≤ 12 → ((i : ℕ) → i < length g / 2 → entry_role g i < 8) →
+    ((r : ℕ) → r < 8 → get_or w r 0 ≤ 40) → sum_below (length g / 2) (weight_at w g) ≤ 240
+most w g few low light =
+    let each = sum_le (weight_at w g) 40 (length g / 2) (λ i l. light (entry_role g i) (low i l)) in
+    omega arith
 
-  done : length g / 2 ≤ i → (sum ≡ sum_of (λ r. get_or w r 0) g) × (sum ≤ 240)
-  unfolding sum_of
-  done end =
-      let all : i ≡ length g / 2 = omega (arith, turn.within) in
-      (rw (← all) turn.is, omega (arith, turn.most))
-
-pub loop-i-init : goal.loop-i-init
-loop-i-init c = at_first _ _
-
-pub loop-i-preserved : goal.loop-i-preserved
-loop-i-preserved c =
-    more c.loop-i.invariant c.requires.0 c.loop-i-test.true
-    (c.requires.2 _ (c.requires.1 c.loop-i.i c.loop-i-test.true))
+pub sum-requires-clause-fits : goal.sum-requires-clause-fits
+sum-requires-clause-fits c =
+    let (few, low, light) = c.requires in
+    let top = most c.args.w c.args.g.now few low light in
+    fits_of_range (weight_at c.args.w c.args.g.now) (length c.args.g.now / 2) (cc) c.map.ensures.closure
+    (λ x r q k. search rules) _ (omega arith)
 
 pub returns : goal.returns
-returns c = done c.loop-i.invariant c.requires.0 c.loop-i-test.false
+unfolding sum_of
+returns c =
+    let (few, low, light) = c.requires in
+    let is = sum_of_range (weight_at c.args.w c.args.g.now) (length c.args.g.now / 2) (cc) c.map.ensures.closure
+    (λ x r q k. search rules) c.sum.ensures.ran in
+    (is, rw is (most c.args.w c.args.g.now few low light))
