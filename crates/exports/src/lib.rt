@@ -218,5 +218,5 @@ fn pack(given: Result<u32, Refused>) -> u64
     ensures { result ≡ packed (answer_from given) }
 {
     let answer = Answer::from(given);
-    answer.refusal as u64 + 256 * (answer.count as u64)
+    u64::from(answer.refusal) + 256 * u64::from(answer.count)
 }
