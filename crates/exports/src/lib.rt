@@ -15,6 +15,7 @@ ghost use Rattle.sheet.specs.Form.{bytes_of, sheet_of};
 ghost use Rattle.shift.specs.Shift.{bound_answer};
 
 use reader::{Answer, Refusal, Refused};
+use sheet::Sheet;
 use weights::Context;
 
 // The base check: 0 or the first of refusals 1 to 9 that applies.
@@ -124,11 +125,11 @@ pub extern "C" fn release_sheet_open(base: &[u8], permission: u32, sheet: &mut [
 {
     match sheet::open(base, permission) {
         Ok(opened) => {
-            sheet::form::write(opened, sheet);
+            *sheet = opened.into();
             0
         }
         Err(unopened) => {
-            sheet::form::write(unopened.sheet, sheet);
+            *sheet = unopened.sheet.into();
             unopened.refusal.number() as u32
         }
     }
@@ -142,10 +143,9 @@ pub extern "C" fn release_sheet_sign(base: &[u8], user: u32, role: u32, sheet: &
         (sheet.new ≡ bytes_of (signed base.now (sheet_of sheet.old) user role).sheet) }
     ensures kept { (result ≡ 0 → ⊥) → sheet.new ≡ sheet.old }
 {
-    let s = sheet::form::read(sheet);
-    match sheet::sign(base, s, user, role) {
+    match sheet::sign(base, Sheet::from(&*sheet), user, role) {
         Ok(signed) => {
-            sheet::form::write(signed, sheet);
+            *sheet = signed.into();
             0
         }
         Err(refusal) => refusal.number() as u32,
@@ -160,10 +160,9 @@ pub extern "C" fn release_sheet_withdraw(user: u32, sheet: &mut [u8; 14]) -> u32
         (sheet.new ≡ bytes_of (withdrawn (sheet_of sheet.old) user).sheet) }
     ensures kept { (result ≡ 0 → ⊥) → sheet.new ≡ sheet.old }
 {
-    let s = sheet::form::read(sheet);
-    match sheet::withdraw(s, user) {
+    match sheet::withdraw(Sheet::from(&*sheet), user) {
         Ok(left) => {
-            sheet::form::write(left, sheet);
+            *sheet = left.into();
             0
         }
         Err(refusal) => refusal.number() as u32,
@@ -183,8 +182,7 @@ pub extern "C" fn release_sheet_ask(
         (record { minute = minute; day = day; zone = zone }) }
 {
     let at = Context { minute, day, zone };
-    let s = sheet::form::read(sheet);
-    number(sheet::ask(base, s, at))
+    number(sheet::ask(base, Sheet::from(sheet), at))
 }
 
 // How much one weight can shift: 0, or the first of refusals 1 to 9, 12 to 15 and 21 that applies; plus 256 times the
@@ -220,5 +218,5 @@ fn pack(given: Result<u32, Refused>) -> u64
     ensures { result ≡ packed (answer_from given) }
 {
     let answer = Answer::from(given);
-    answer.refusal as u64 + 256 * (answer.count as u64)
+    u64::from(answer.refusal) + 256 * u64::from(answer.count)
 }

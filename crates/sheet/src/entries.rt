@@ -1,46 +1,28 @@
 // The entries that a sheet holds, and the refusals of a new one.
-ghost use Rattle.std.specs.Prelude.{◌≡◌, not, ◌*◌, length, take};
+ghost use Rattle.std.specs.Prelude.{◌≡◌, not};
 ghost use Rattle.reader.specs.Tables.{role_count, user_count};
 ghost use Rattle.reader.specs.Rules.{refusal_of};
 ghost use Rattle.reader.specs.Refusals.{number_of};
 ghost use Rattle.weights.specs.Acting.{may_act};
 ghost use Rattle.decision.specs.Groups.{unknown};
-ghost use Rattle.sheet.specs.Sheets.{held_count, stands_in, sign_refusal};
+ghost use Rattle.sheet.specs.Sheets.{stands_in, sign_refusal};
 
 use reader::Refusal;
-
-// Inner: the bytes of the entries held, of a sheet that claims this many.
-pub fn held(entries: &[u8; 12], count: u8) -> &[u8]
-    ensures { (result.now ≡ take (2 * held_count count) entries.now) × (length entries.now ≡ 12) }
-{
-    let all: &[u8] = entries;
-    if 6 < count {
-        return all;
-    }
-    &all[0..2 * (count as usize)]
-}
 
 // Refusal 13 of a new entry.
 fn is_unknown(base: &[u8], user: u32, role: u32) -> bool
     requires { refusal_of base.now ≡ 0 }
     ensures { result ≡ unknown (user_count base.now) (role_count base.now) user role }
 {
-    if reader::trailer::user_count(base) <= user as usize {
-        return true;
-    }
-    reader::trailer::role_count(base) as u32 <= role
+    reader::trailer::user_count(base) <= user as usize
+        || u32::from(reader::trailer::role_count(base)) <= role
 }
 
 // Inner: refusal 14 of a new entry; of a withdrawal, that 23 doesn't apply.
 pub fn stands_in(held: &[u8], user: u32) -> bool
     ensures { result ≡ stands_in held.now user }
 {
-    for i in 0..held.len() / 2 {
-        if held[2 * i] as u32 == user {
-            return true;
-        }
-    }
-    false
+    (0..held.len() / 2).any(|i| u32::from(held[2 * i]) == user)
 }
 
 // Refusal 15 of a new entry.

@@ -1,40 +1,33 @@
 // A sheet as 14 bytes, for C and for whoever keeps it.
-ghost use Rattle.std.specs.Prelude.{◌≡◌, ◌+◌, ◌≤◌, length};
-ghost use Rattle.std.proofs.Math.Seq.{paste};
+ghost use Rattle.std.specs.Prelude.{◌≡◌};
 ghost use Rattle.sheet.specs.Form.{bytes_of, sheet_of};
 
-use crate::{Sheet, entries};
+use crate::Sheet;
 
 // Inner: the sheet that the bytes are.
-pub fn read(bytes: &[u8; 14]) -> Sheet
-    ensures { (result ≡ sheet_of bytes.now) × (length bytes.now ≡ 14) }
-{
-    let all: &[u8] = bytes;
-    let mut entries = [0; 12];
-    put(&all[2..14], 0, &mut entries);
-    Sheet {
-        permission: all[0],
-        count: all[1],
-        entries,
+impl From<&[u8; 14]> for Sheet {
+    ghost from_gives = { λ bytes sheet. sheet ≡ sheet_of bytes.now };
+
+    fn from(bytes: &[u8; 14]) -> Sheet {
+        let mut entries = [0; 12];
+        entries.copy_from_slice(&bytes[2..]);
+        Sheet {
+            permission: bytes[0],
+            count: bytes[1],
+            entries,
+        }
     }
 }
 
-// Inner: writes the sheet's bytes.
-pub fn write(s: Sheet, bytes: &mut [u8; 14])
-    ensures { bytes.new ≡ bytes_of s }
-{
-    bytes[0] = s.permission;
-    bytes[1] = s.count;
-    let claimed = s.entries;
-    put(entries::held(&claimed, 6), 2, bytes);
-}
+// Inner: the sheet's bytes.
+impl From<Sheet> for [u8; 14] {
+    ghost from_gives = { λ sheet bytes. bytes ≡ bytes_of sheet };
 
-// Writes all of `from` into `to`, from byte `at` on.
-fn put(from: &[u8], at: usize, to: &mut [u8])
-    requires { at + length from.now ≤ length to.old }
-    ensures { to.new ≡ paste to.old at from.now (length from.now) }
-{
-    for i in 0..from.len() {
-        to[at + i] = from[i];
+    fn from(sheet: Sheet) -> [u8; 14] {
+        let mut bytes = [0; 14];
+        bytes[0] = sheet.permission;
+        bytes[1] = sheet.count;
+        bytes[2..].copy_from_slice(&sheet.entries);
+        bytes
     }
 }

@@ -2,7 +2,7 @@
 // be taken back.
 #![tactic(auto)]
 
-ghost use Rattle.std.specs.Prelude.{◌≡◌, ◌<◌};
+ghost use Rattle.std.specs.Prelude.{◌≡◌, ◌*◌, ◌<◌, length};
 ghost use Rattle.reader.specs.Refusals.{number_of};
 ghost use Rattle.sheet.specs.Outcomes.{unopened, opening_outcome, outcome_of};
 ghost use Rattle.sheet.specs.Sheets.{unsigned, opened, signed, asked, with_entry};
@@ -14,7 +14,8 @@ use weights::Context;
 pub mod entries;
 pub mod form;
 
-// The permission, how many entries are claimed, and room for six of 2 bytes: user, role acted in.
+// The permission, how many entries are claimed, and room for six of 2 bytes: user, role acted in. A count beside the
+// room, for the C interface: any 14 bytes are a sheet, and may claim any number.
 #[derive(Clone, Copy)]
 pub struct Sheet {
     pub permission: u8,
@@ -35,7 +36,7 @@ impl From<Refusal> for Unopened {
     fn from(refusal: Refusal) -> Unopened {
         Unopened {
             refusal,
-            sheet: unsigned_for(255),
+            sheet: Sheet::unsigned(255),
         }
     }
 }
@@ -48,7 +49,7 @@ pub fn open(base: &[u8], permission: u32) -> Result<Sheet, Unopened>
     if reader::trailer::permission_count(base) as u32 <= permission {
         return Err(Refusal::Permission.into());
     }
-    Ok(unsigned_for(permission as u8))
+    Ok(Sheet::unsigned(permission as u8))
 }
 
 // Entry point: the sheet with the entry behind those that it holds; of refusals 1 to 9, 13 to 15 and 20, the sheet as
@@ -56,77 +57,68 @@ pub fn open(base: &[u8], permission: u32) -> Result<Sheet, Unopened>
 pub fn sign(base: &[u8], s: Sheet, user: u32, role: u32) -> Result<Sheet, Refusal>
     ensures { outcome_of s result ≡ signed base.now s user role }
 {
-    let claimed = s.entries;
-    entries::sign_refusal(base, entries::held(&claimed, s.count), user, role)?;
-    Ok(with_entry(s, user as u8, role as u8))
+    entries::sign_refusal(base, s.held(), user, role)?;
+    let mut sheet = s;
+    sheet.add(user as u8, role as u8);
+    Ok(sheet)
 }
 
 // Entry point: the sheet without the user's entries; of refusal 23, the sheet as it was.
 pub fn withdraw(sheet: Sheet, user: u32) -> Result<Sheet, Refusal>
     ensures { outcome_of sheet result ≡ withdrawn sheet user }
 {
-    let claimed = sheet.entries;
-    if !entries::stands_in(entries::held(&claimed, sheet.count), user) {
+    if !entries::stands_in(sheet.held(), user) {
         return Err(Refusal::NotSigned);
     }
-    Ok(without(sheet, user))
+    Ok(sheet.without(user))
 }
 
 // Entry point: the decision for the sheet's permission and the entries that it holds.
 pub fn ask(base: &[u8], s: Sheet, at: Context) -> Result<(), Refusal>
     ensures { number_of result ≡ asked base.now s at }
 {
-    let claimed = s.entries;
-    decision::decide(
-        base,
-        s.permission as u32,
-        at,
-        entries::held(&claimed, s.count),
-    )
+    decision::decide(base, u32::from(s.permission), at, s.held())
 }
 
-fn unsigned_for(permission: u8) -> Sheet
-    ensures { result ≡ unsigned permission }
-{
-    Sheet {
-        permission,
-        count: 0,
-        entries: [0; 12],
-    }
-}
-
-// The sheet with one entry more, where there is room for it.
-fn with_entry(s: Sheet, user: u8, role: u8) -> Sheet
-    requires { s.count < 6 }
-    ensures { result ≡ with_entry s user role }
-{
-    let mut entries = s.entries;
-    let at = 2 * (s.count as usize);
-    entries[at] = user;
-    entries[at + 1] = role;
-    Sheet {
-        permission: s.permission,
-        count: s.count + 1,
-        entries,
-    }
-}
-
-// The sheet with the entries of all others alone, in their order.
-fn without(s: Sheet, user: u32) -> Sheet
-    ensures { result ≡ holding s.permission (entries_without user (held_on s)) }
-{
-    let claimed = s.entries;
-    let blank = [0; 12];
-    let mut left = Sheet {
-        permission: s.permission,
-        count: 0,
-        entries: blank,
-    };
-    let held = entries::held(&claimed, s.count);
-    for i in 0..held.len() / 2 {
-        if held[2 * i] as u32 != user {
-            left = with_entry(left, held[2 * i], held[2 * i + 1]);
+impl Sheet {
+    fn unsigned(permission: u8) -> Sheet
+        ensures { result ≡ unsigned permission }
+    {
+        Sheet {
+            permission,
+            count: 0,
+            entries: [0; 12],
         }
     }
-    left
+
+    // Inner: the bytes of the entries that the sheet holds.
+    pub fn held(&self) -> &[u8]
+        ensures { (result.now ≡ held_on self.now) × (length self.now.entries ≡ 12) }
+    {
+        &self.entries[..2 * usize::from(self.count.min(6))]
+    }
+
+    // Puts an entry behind those claimed, where there is room for it.
+    fn add(&mut self, user: u8, role: u8)
+        requires { self.old.count < 6 }
+        ensures { self.new ≡ with_entry self.old user role }
+    {
+        let at = 2 * usize::from(self.count);
+        self.entries[at] = user;
+        self.entries[at + 1] = role;
+        self.count += 1;
+    }
+
+    // The sheet with the entries of all others alone, in their order.
+    fn without(&self, user: u32) -> Sheet
+        ensures { result ≡ holding self.now.permission (entries_without user (held_on self.now)) }
+    {
+        let mut left = Sheet::unsigned(self.permission);
+        for entry in self.held().chunks_exact(2) {
+            if u32::from(entry[0]) != user {
+                left.add(entry[0], entry[1]);
+            }
+        }
+        left
+    }
 }

@@ -45,4 +45,4 @@ returns-then-permission_count-permission c =
 pub returns : goal.returns
 returns c =
     done _ _ (sym c.in_ok-check.ensures) c.permission_count.ensures
-    c.if-permission_count-permission.false c.unsigned_for.ensures
+    c.if-permission_count-permission.false c.unsigned.ensures

@@ -41,8 +41,8 @@ overflow_cast-role c =
     let few = lt_of_lt_of_le p.role (roles_range _ (accepted_frame _ p.ok)).1 in
     omega arith
 
-pub with_entry-requires : goal.with_entry-requires
-with_entry-requires c =
+pub add-requires : goal.add-requires
+add-requires c =
     let a = c.args in
     let p = passing a.base.now a.s a.user a.role c.held.ensures.0 c.in_ok-sign_refusal.ensures in
     room_claimed _ _ c.held.ensures.1 p.room
@@ -51,4 +51,4 @@ pub returns : goal.returns
 returns c =
     let a = c.args in
     let is = of_held a.base.now a.s a.user a.role c.held.ensures.0 c.in_ok-sign_refusal.ensures in
-    signed_done _ a.s _ _ (sym is) c.with_entry.ensures
+    signed_done _ a.s _ _ (sym is) c.add.ensures

@@ -1,0 +1,10 @@
+use Rattle.std.proofs.Common.{◌≡◌}
+use Rattle.sheet.specs.Sheets.{held_on, is_another}
+use Rattle.sheet.proofs.Staying.{StayedYet}
+use Rattle.sheet.proofs.Sheet.without.Given as goal
+
+-- the sheet holds those of the entries before the rest that are another user's
+abbrev pub invariant-loop-entry : goal.invariant-loop-entry
+invariant-loop-entry l =
+    StayedYet (is_another l.user) (held_on l.self) l.self.permission l.left l.entry-iterator.rest.now
+    × (l.entry-iterator.size ≡ 2)
