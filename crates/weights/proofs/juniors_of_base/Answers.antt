@@ -1,5 +1,4 @@
 -- The table read is the base's H, which passed the check.
-use Rattle.std.proofs.Common.{arith}
 use Rattle.reader.proofs.Frame.{roles_range}
 use Rattle.reader.proofs.Accepted.{accepted}
 use Rattle.weights.proofs.Chains.{hierarchy_wider}

@@ -1,5 +1,4 @@
 -- The table C read is the base's, and what the check said of the base holds of it.
-use Rattle.std.proofs.Common.{arith}
 use Rattle.reader.proofs.Accepted.{accepted}
 use Rattle.weights.proofs.setting_by.Goals as goal
 
