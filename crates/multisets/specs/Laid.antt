@@ -10,8 +10,8 @@ use Rattle.folds.proofs.Bools.{met_or_not}
 use Rattle.folds.proofs.Numbers.{sum_step, sum_le_sum}
 use Rattle.std.proofs.Props.{props}
 use Rattle.multisets.specs.Ranks.{starts, first, more}
-use Rattle.multisets.specs.Ends.{NextTable, Grows, Came, Filled}
-use Rattle.multisets.specs.Levels.{Levels, Grown}
+use Rattle.multisets.specs.Ends.{NextTable, Grows, Came}
+use Rattle.multisets.specs.Levels.{Levels}
 
 -- the levels up to `known` are made of the users' next ends, and there is room for the sums
 pub record Laid (d known : ℕ) (nexts t ends from roles sums : List ℕ) : Type 0 where

@@ -108,14 +108,7 @@ fn grow_block(
 }
 
 // From the multisets of n + 1 roles.
-fn grow_level(
-    d: usize,
-    nexts: &[u8],
-    n: usize,
-    t: &mut [u16],
-    ends: &mut [u8],
-    from: &mut [u16],
-)
+fn grow_level(d: usize, nexts: &[u8], n: usize, t: &mut [u16], ends: &mut [u8], from: &mut [u16])
     requires { (n ≤ 4) × (d ≤ 8) × NextTable nexts.now
         × Grown d nexts.now (first d (suc n)) t.old ends.old from.old }
     ensures { Grown d nexts.now (first d (suc (suc n))) t.new ends.new from.new }
@@ -136,14 +129,7 @@ fn grow_none(d: usize, nexts: &[u8], t: &mut [u16], ends: &mut [u8], from: &mut 
 }
 
 // Inner: the least ends of the multisets of n + 1 roles, from those of n.
-pub fn grow(
-    d: usize,
-    nexts: &[u8],
-    n: usize,
-    t: &mut [u16],
-    ends: &mut [u8],
-    from: &mut [u16],
-)
+pub fn grow(d: usize, nexts: &[u8], n: usize, t: &mut [u16], ends: &mut [u8], from: &mut [u16])
     requires { (n ≤ 5) × (d ≤ 8) × NextTable nexts.now
         × Grown d nexts.now (first d n) t.old ends.old from.old }
     ensures { Grown d nexts.now (first d (suc n)) t.new ends.new from.new }

@@ -129,7 +129,15 @@ fn try_level<const ROWS: usize, const PLACES: usize>(
     tables.reach(n);
     let first = first_in(tables.d, n);
     let last = first + start_in(n, end);
-    meeting(&tables.ends, &tables.sums, &tables.roles, masks, row, first, last)
+    meeting(
+        &tables.ends,
+        &tables.sums,
+        &tables.roles,
+        masks,
+        row,
+        first,
+        last,
+    )
 }
 
 // A number of entries, and their twelve bytes.
