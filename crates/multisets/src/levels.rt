@@ -1,12 +1,11 @@
 // The tables of a search, level by level.
-ghost use Rattle.std.specs.Prelude.{◌≡◌, ℕ, suc, ◌+◌, ◌-◌, ◌*◌, ◌≤◌, ◌++◌, replicate};
+ghost use Rattle.std.specs.Prelude.{◌≡◌, ℕ, suc, ◌+◌, ◌*◌, ◌≤◌};
 ghost use Rattle.multisets.specs.Ranks.{first};
-ghost use Rattle.multisets.specs.Standing.{bytes_back};
-ghost use Rattle.multisets.specs.Ends.{NextTable, back_of, WayIn};
+ghost use Rattle.multisets.specs.Ends.{NextTable};
 ghost use Rattle.multisets.specs.Values.{Held, Light, sum_at};
 ghost use Rattle.multisets.specs.Laid.{Laid, Laid-prop};
 
-use crate::{back, growth, values};
+use crate::{growth, values};
 
 // Inner: what is known of the multisets of at most six roles below d, for users by their next ends, up to the level of
 // `known` roles; the sums are those of the search under way. With room for ROWS numbers of rows, and for PLACES
@@ -82,13 +81,5 @@ impl<const ROWS: usize, const PLACES: usize> LevelTables<ROWS, PLACES> {
             × (self.new.d ≡ self.old.d) × (self.new.nexts ≡ self.old.nexts) }
     {
         values::sum_level(self.d, end, n, w, placed, &mut self.sums);
-    }
-
-    // Inner: the bytes of the group of n entries by which the end at place x came.
-    pub fn group(&self, n: usize, x: usize) -> [u8; 12]
-        requires { (n ≤ 6) × WayIn self.now.ends self.now.from n x }
-        ensures { result ≡ bytes_back (back_of self.now.ends self.now.from n x) ++ replicate (12 - 2 * n) 255 }
-    {
-        back::group(&self.ends, &self.from, n, x)
     }
 }

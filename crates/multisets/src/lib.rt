@@ -1,7 +1,7 @@
 // Multisets of at most six roles by rank; their least ends, sums and sets, and the way back.
 #![tactic(auto)]
 
-mod back;
+pub mod back;
 pub mod ends;
 mod growth;
 pub mod levels;

@@ -1,7 +1,7 @@
 -- What a search answers, as an Option.
-use Rattle.std.specs.Prelude.{ℕ, Bool, List, replicate}
-use Rattle.core.specs.declared.option.Option.{Option}
-use Rattle.core.specs.declared.option.Option.TheVariants.{Some, None}
+use Rattle.std.specs.Prelude.{ℕ, ◌≤◌, Bool, List, replicate, IfSome}
+use Rattle.std.specs.declared.option.Option.{Option}
+use Rattle.std.specs.declared.option.Option.TheVariants.{Some, None}
 use Rattle.seek.specs.Search.{Answered}
 use Rattle.seek.specs.declared.Found.{Found}
 
@@ -16,6 +16,7 @@ group_found None = replicate 12 255
 group_found (Some f) = f.group
 
 -- the answer of a search: the fewest entries that meet the condition, or none
-abbrev pub AnsweredWith : List ℕ → List ℕ → ℕ → (ℕ → ℕ → ℕ → Bool) → ℕ → Option Found → Type 0
-AnsweredWith sets w placed condition last o =
-    Answered sets w placed condition last (number_found o) (group_found o)
+pub record AnsweredWith (sets w : List ℕ) (placed : ℕ) (condition : ℕ → ℕ → ℕ → Bool) (last : ℕ) (o : Option Found)
+    : Type 0 where
+  pub answered : Answered sets w placed condition last (number_found o) (group_found o)
+  pub some : IfSome o (λ f. f.n ≤ 6)

@@ -1,9 +1,9 @@
 -- A search of the levels by masks of clauses.
 use Rattle.std.specs.Prelude.{ℕ, ◌+◌, ◌-◌, ◌*◌, ◌^◌, ◌<◌, ◌≤◌, Bool, true, false, ◌&&◌, not, ◌≡◌, List, ◌++◌}
-use Rattle.std.specs.Prelude.{eqb, ltb, length, get_or, replicate}
+use Rattle.std.specs.Prelude.{eqb, ltb, length, get_or, replicate, IfSome}
 use Rattle.std.specs.Int.Bits.{bit_and}
-use Rattle.core.specs.declared.option.Option.{Option}
-use Rattle.core.specs.declared.option.Option.TheVariants.{Some, None}
+use Rattle.std.specs.declared.option.Option.{Option}
+use Rattle.std.specs.declared.option.Option.TheVariants.{Some, None}
 use Rattle.folds.specs.Sets.{in_set}
 use Rattle.multisets.specs.Ranks.{first}
 use Rattle.multisets.specs.Rising.{Entry, Rises, entries_sum, entries_roles, bytes_of}
@@ -50,8 +50,9 @@ place_of None = 3003
 place_of (Some x) = x
 
 -- the same of a place that may be there
-abbrev pub FoundAt : (ℕ → Bool) → ℕ → ℕ → Option ℕ → Type 0
-FoundAt test from end o = FoundIn test from end (place_of o)
+pub record FoundAt (test : ℕ → Bool) (from end : ℕ) (o : Option ℕ) : Type 0 where
+  pub found : FoundIn test from end (place_of o)
+  pub some : IfSome o (λ x. x < 3003)
 
 -- what is asked: roles below `end`, one past the last that has weight; masks that meet no set with a role without
 -- weight
@@ -92,8 +93,10 @@ pub record TriedAt (sets w : List ℕ) (placed d : ℕ) (condition : ℕ → ℕ
   pub none : x ≡ 3003 → (g : List Entry) → length g ≡ n → Meets sets w placed condition g → ⊥
 
 -- the same of a place that may be there
-abbrev pub TriedWith : List ℕ → List ℕ → ℕ → ℕ → (ℕ → ℕ → Bool) → ℕ → Option ℕ → List ℕ → List ℕ → Type 0
-TriedWith sets w placed d condition n o ends from = TriedAt sets w placed d condition n (place_of o) ends from
+pub record TriedWith (sets w : List ℕ) (placed d : ℕ) (condition : ℕ → ℕ → Bool) (n : ℕ) (o : Option ℕ)
+    (ends from : List ℕ) : Type 0 where
+  pub tried : TriedAt sets w placed d condition n (place_of o) ends from
+  pub some : IfSome o (λ x. x < 3003)
 
 -- n is the least number of entries, up to `last`, that meet the condition, and g are some; n is 7 where there are none
 pub record Sought (sets w : List ℕ) (placed : ℕ) (condition : ℕ → ℕ → ℕ → Bool) (last n : ℕ) (g : List Entry)

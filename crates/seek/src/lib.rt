@@ -9,6 +9,7 @@ ghost use Rattle.seek.specs.Search.{Tables, met_by, by_masks, met_at, SomeMet, F
 ghost use Rattle.seek.specs.Search.{Ready, TriedWith};
 ghost use Rattle.seek.specs.Answer.{AnsweredWith};
 
+use multisets::back;
 use multisets::levels::LevelTables;
 use multisets::ranks::{first_in, start_in};
 
@@ -93,9 +94,8 @@ fn meeting(
 {
     let mut x = from;
     while x + 8 <= end {
-        let found = meeting_in_eight(ends, sums, roles, masks, row, x);
-        if found.is_some() {
-            return found;
+        if let Some(found) = meeting_in_eight(ends, sums, roles, masks, row, x) {
+            return Some(found);
         }
         x += 8;
     }
@@ -166,7 +166,7 @@ pub fn search<const ROWS: usize, const PLACES: usize>(
 {
     for n in 0..last + 1 {
         if let Some(at) = try_level(tables, masks, rows[n], end, n, w, placed) {
-            let group = tables.group(n, at);
+            let group = back::group(&tables.ends, &tables.from, n, at);
             return Some(Found { n, group });
         }
     }
