@@ -5,19 +5,10 @@ ghost use Rattle.multisets.specs.Ends.{NextTable};
 ghost use Rattle.multisets.specs.Values.{Written};
 ghost use Rattle.multisets.specs.Levels.{Fixed, Kept, Grown};
 
+use std::array;
+
 use crate::ends;
 use crate::ranks::{first_in, start_in};
-
-// The number for role q: `low` where the role is below r, else `high`.
-fn fixed_step(low: usize, high: usize, q: usize, r: usize) -> u16
-    requires { (low ≤ 3003) × (high ≤ 3003) }
-    ensures { (q < r → result ≡ low) × (r ≤ q → result ≡ high) × (result ≤ 3003) }
-{
-    if q < r {
-        return low as u16;
-    }
-    high as u16
-}
 
 // How far multisets of n + 1 roles whose largest is r lie behind with each role more, as far as r and the role tell.
 fn fixed_steps(n: usize, r: usize) -> [u16; 8]
@@ -25,58 +16,35 @@ fn fixed_steps(n: usize, r: usize) -> [u16; 8]
     ensures { Fixed n r result }
 {
     let low = start_in(n + 2, r) - start_in(n + 1, r);
-    let mut a = [0u16; 8];
-    for q in 0..8usize {
-        a[q] = fixed_step(low, start_in(n + 2, q), q, r);
-    }
-    a
+    array::from_fn(|q| (if q < r { low } else { start_in(n + 2, q) }) as u16)
 }
 
 // 1 for a role below r, to which the rest without r adds, else 0.
-fn kept_step(q: usize, r: usize) -> u16
-    ensures { (q < r → result ≡ 1) × (r ≤ q → result ≡ 0) }
-{
-    if q < r {
-        return 1;
-    }
-    0
-}
-
+#[inline(never)]
 fn kept_steps(r: usize) -> [u16; 8]
     ensures { Kept r result }
 {
-    let mut a = [0u16; 8];
-    for q in 0..8usize {
-        a[q] = kept_step(q, r);
-    }
-    a
+    array::from_fn(|q| u16::from(q < r))
 }
 
 // The eight numbers of a multiset from those at a place, of the multiset without its largest role.
-fn ups_of(t: &[u16], at: usize, fixed: &[u16], kept: &[u16]) -> [u16; 8]
-    requires { (at + 8 ≤ length t.now) × (length fixed.now ≡ 8) × (length kept.now ≡ 8) × (at ≤ 100000)
+fn ups_of(t: &[u16], at: usize, fixed: &[u16; 8], kept: &[u16; 8]) -> [u16; 8]
+    requires { (at + 8 ≤ length t.now) × (at ≤ 100000)
         × ((q : ℕ) → q < 8 → get_or fixed.now q 0 + get_or t.now (at + q) 0 * get_or kept.now q 0 ≤ 6006) }
     ensures { (length result ≡ 8) × ((q : ℕ) → q < 8 →
         get_or result q 0 ≡ get_or fixed.now q 0 + get_or t.now (at + q) 0 * get_or kept.now q 0) }
 {
-    let mut up = [0u16; 8];
-    for q in 0..8usize {
-        up[q] = fixed[q] + t[at + q] * kept[q];
-    }
-    up
+    array::from_fn(|q| fixed[q] + t[at + q] * kept[q])
 }
 
 // Writes the eight numbers of a multiset of n roles; those of five roles are not read again.
-fn keep_row(t: &mut [u16], n: usize, at: usize, up: &[u16])
-    requires { (n ≤ 4 → at + 8 ≤ length t.old) × (length up.now ≡ 8) × (at ≤ 100000) }
+fn keep_row(t: &mut [u16], n: usize, at: usize, up: &[u16; 8])
+    requires { (n ≤ 4 → at + 8 ≤ length t.old) × (at ≤ 100000) }
     ensures { (n ≤ 4 → Written (λ q. get_or up.now q 0) at 8 t.old t.new)
         × (5 ≤ n → t.new ≡ t.old) }
 {
-    if 4 < n {
-        return;
-    }
-    for q in 0..8usize {
-        t[at + q] = up[q];
+    if n <= 4 {
+        t[at..at + 8].copy_from_slice(up);
     }
 }
 
