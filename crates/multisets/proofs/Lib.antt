@@ -9,4 +9,5 @@ pub mod Turned
 pub mod Writing
 pub mod Bytes
 pub mod Rows
+pub mod Chains
 mod Reading

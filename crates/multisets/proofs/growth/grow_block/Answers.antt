@@ -90,12 +90,10 @@ module _ {d n r less here next last : ℕ} {fixed kept nexts : List ℕ} {j : �
       let e = b.less_is in
       omega (arith, g.rows.room, place_lt d n j some_less, first_le d (suc n) 5 (let h = b.few in omega arith))
 
-  asked : (8 * (less + j) + 8 ≤ length t) × (length fixed ≡ 8) × (length kept ≡ 8) × (8 * (less + j) ≤ 100000)
+  asked : (8 * (less + j) + 8 ≤ length t) × (8 * (less + j) ≤ 100000)
       × ((q : ℕ) → q < 8 → get_or fixed q 0 + get_or t (8 * (less + j) + q) 0 * get_or kept q 0 ≤ 6006)
   asked = (
     less_room,
-    b.fixed_is.size,
-    b.kept_is.size,
     omega (arith, l, b.less_most, b.last_most),
     step_most b.few role_eight some ups b.fixed_is b.kept_is,
   )
@@ -162,7 +160,7 @@ loop-j-init c =
     let p = c.requires in
     let b = block_of p.0 p.1 p.2 c.first_in-less.ensures c.first_in.ensures c.start_in.ensures c.first_in-2.ensures
     c.start_in-2.ensures c.start_in-j-end.ensures c.fixed_steps-fixed.ensures c.kept_steps-kept.ensures in
-    block_start b p.5
+    block_start b p.4
 
 pub ups_of-up-requires : goal.ups_of-up-requires
 ups_of-up-requires c = asked c.loop-j.invariant c.loop-j-test.true
@@ -171,13 +169,13 @@ pub keep_row-requires : goal.keep_row-requires
 keep_row-requires c =
     let t = c.loop-j.invariant in
     let l = c.loop-j-test.true in
-    (here_room t l, c.ups_of-up.ensures.0, here_few t l)
+    (here_room t l, here_few t l)
 
 pub push-requires : goal.push-requires
 push-requires c =
     let t = c.loop-j.invariant in
     let l = c.loop-j-test.true in
-    pushing t l c.ups_of-up.ensures.0 (made t l c.ups_of-up.ensures.1) c.requires.4
+    pushing t l c.ups_of-up.ensures.0 (made t l c.ups_of-up.ensures.1) c.requires.3
 
 pub loop-j-preserved : goal.loop-j-preserved
 loop-j-preserved c =

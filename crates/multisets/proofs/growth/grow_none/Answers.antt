@@ -57,7 +57,7 @@ module _ {d : ℕ} {nexts t ends from : List ℕ} (g : Grown d nexts (first d 0)
   })
 
 pub keep_row-requires : goal.keep_row-requires
-keep_row-requires c = (λ h. room c.requires.2, refl, omega arith)
+keep_row-requires c = (λ h. room c.requires.2, omega arith)
 
 pub push-requires : goal.push-requires
 push-requires c = pushing c.requires.2 c.requires.0 c.requires.1
