@@ -3,10 +3,7 @@ ghost use Rattle.std.specs.Prelude.{◌≡◌, ◌+◌, ◌*◌, ◌≤◌, ◌<
 ghost use Rattle.folds.specs.Below.{any_below};
 ghost use Rattle.reader.specs.Rules.{context_condition_bad, context_slot_bad, context_bad, contexts_bad};
 
-use crate::bytes;
-
-// How many values a context's parameter has: minute, day, zone.
-const RANGES: [u16; 3] = [1440, 7, 256];
+use crate::{RANGES, bytes};
 
 fn context_condition_bad(parameter: u8, operator: u8, value: u16) -> bool
     ensures { result ≡ context_condition_bad parameter operator value }

@@ -18,6 +18,9 @@ pub mod trailer;
 pub use refusal::{Refusal, Refused};
 pub use tables::Table;
 
+// How many values a context's parameter has: minute, day, zone.
+pub const RANGES: [u16; 3] = [1440, 7, 256];
+
 // The answer of a call that also carries a number: 0 or the refusal, and the number.
 #[derive(Clone, Copy)]
 pub struct Answer {
