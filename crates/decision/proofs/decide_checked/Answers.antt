@@ -79,15 +79,8 @@ pub returns-in_err-members_refusal : goal.returns-in_err-members_refusal
 returns-in_err-members_refusal c =
     handed_on _ _ c.from_residual.ensures.1 ∙ by_members _ _ _ _ _ c.in_err-members_refusal.ensures (refusal_pos _)
 
-pub choose-requires : goal.choose-requires
-choose-requires c = (c.requires.0, c.requires.2, vacant, vacant)
-
 pub role_weights-w-requires : goal.role_weights-w-requires
-role_weights-w-requires c = (
-  c.choose.ensures.own_light,
-  c.choose.ensures.inh_light,
-  lt_of_lt_of_le c.requires.1 (permissions_le _ (accepted _ c.requires.0).frame),
-)
+role_weights-w-requires c = lt_of_lt_of_le c.requires.1 (permissions_le _ (accepted _ c.requires.0).frame)
 
 pub some_weightless-requires : goal.some_weightless-requires
 some_weightless-requires c = (known c.requires.0 (sym c.in_ok-members_refusal.ensures)).low
@@ -95,7 +88,7 @@ some_weightless-requires c = (known c.requires.0 (sym c.in_ok-members_refusal.en
 pub returns-then-some_weightless : goal.returns-then-some_weightless
 returns-then-some_weightless c =
     let k = known c.requires.0 (sym c.in_ok-members_refusal.ensures) in
-    let are = c.role_weights-w.ensures _ _ _ c.requires.0 c.choose.ensures c.requires.2.juniors in
+    let are = c.role_weights-w.ensures _ _ _ c.requires.0 c.choose-chosen.ensures c.requires.2.juniors in
     by_16 _ _ _ _ _ k (weightless_is _ _ _ _ _ k are c.if-some_weightless.ensures)
 
 pub part-k-requires : goal.part-k-requires
@@ -107,7 +100,7 @@ entry_count-requires c = (known c.requires.0 (sym c.in_ok-members_refusal.ensure
 pub sum_of-requires : goal.sum_of-requires
 sum_of-requires c =
     let k = known c.requires.0 (sym c.in_ok-members_refusal.ensures) in
-    let are = c.role_weights-w.ensures _ _ _ c.requires.0 c.choose.ensures c.requires.2.juniors in
+    let are = c.role_weights-w.ensures _ _ _ c.requires.0 c.choose-chosen.ensures c.requires.2.juniors in
     (k.few, k.low, weights_le _ c.requires.0 _ _ _ _ are)
 
 pub roles_of-requires : goal.roles_of-requires
@@ -120,7 +113,7 @@ permission_holds-requires c =
 pub returns-then-permission_holds : goal.returns-then-permission_holds
 returns-then-permission_holds c =
     let k = known c.requires.0 (sym c.in_ok-members_refusal.ensures) in
-    let are = c.role_weights-w.ensures _ _ _ c.requires.0 c.choose.ensures c.requires.2.juniors in
+    let are = c.role_weights-w.ensures _ _ _ c.requires.0 c.choose-chosen.ensures c.requires.2.juniors in
     by_0 _ _ _ _ _ k (weightless_is _ _ _ _ _ k are c.if-some_weightless.ensures)
     (holds_is _ _ _ _ _ k are c.if-permission_holds.ensures c.part-k.ensures c.entry_count.ensures
     c.sum_of.ensures.0 c.roles_of.ensures)
@@ -128,7 +121,7 @@ returns-then-permission_holds c =
 pub returns : goal.returns
 returns c =
     let k = known c.requires.0 (sym c.in_ok-members_refusal.ensures) in
-    let are = c.role_weights-w.ensures _ _ _ c.requires.0 c.choose.ensures c.requires.2.juniors in
+    let are = c.role_weights-w.ensures _ _ _ c.requires.0 c.choose-chosen.ensures c.requires.2.juniors in
     by_17 _ _ _ _ _ k (weightless_is _ _ _ _ _ k are c.if-some_weightless.ensures)
     (holds_is _ _ _ _ _ k are c.if-permission_holds.ensures c.part-k.ensures c.entry_count.ensures
     c.sum_of.ensures.0 c.roles_of.ensures)
