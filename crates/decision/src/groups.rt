@@ -4,8 +4,8 @@ ghost use Rattle.reader.specs.Tables.{hierarchy, table_of};
 ghost use Rattle.reader.specs.Rules.{refusal_of};
 ghost use Rattle.weights.specs.Acting.{may_act};
 ghost use Rattle.weights.specs.Setting.{Juniors};
-ghost use Rattle.decision.specs.Groups.{entry_count, entry_user, entry_role, sum_of, roles_of, length_refused, some_unknown};
-ghost use Rattle.decision.specs.Groups.{stands_before, some_twice, some_ineligible, some_weightless};
+ghost use Rattle.decision.specs.Groups.{entry_count, entry_user, entry_role, sum_of, roles_of, length_refused};
+ghost use Rattle.decision.specs.Groups.{some_unknown, stands_before, some_twice, some_ineligible, some_weightless};
 
 // An entry of a group: a user, and the role acted in.
 #[derive(Clone, Copy)]

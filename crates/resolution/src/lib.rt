@@ -3,9 +3,49 @@
 
 ghost use Rattle.std.specs.Prelude.{◌≡◌, ◌+◌, ◌*◌, ◌≤◌, ◌<◌, length, take};
 ghost use Rattle.reader.specs.Refusals.{number_of};
+ghost use Rattle.resolution.specs.Rules.{byte_of, Names};
 ghost use Rattle.resolution.specs.Resolution.{rule_before, goes_before, repeated, list_refused, lent};
 
 use reader::{Refusal, bytes};
+
+// What goes first of two policies: the later issue day, the larger rank number or the smaller weight.
+#[derive(Clone, Copy)]
+enum Rule {
+    LaterDay = 0,
+    LargerRank = 1,
+    SmallerWeight = 2,
+}
+
+impl TryFrom<u8> for Rule {
+    type Error = Refusal;
+
+    ghost try_from_gives = { Names };
+
+    fn try_from(byte: u8) -> Result<Rule, Refusal> {
+        match byte {
+            0 => Ok(Rule::LaterDay),
+            1 => Ok(Rule::LargerRank),
+            2 => Ok(Rule::SmallerWeight),
+            _ => Err(Refusal::Rules),
+        }
+    }
+}
+
+impl Rule {
+    // It puts policy i of the table A before policy j.
+    fn puts_before(self, a: &[u8], i: usize, j: usize) -> bool
+        requires { (8 * i + 8 ≤ length a.now) × (8 * j + 8 ≤ length a.now) }
+        ensures { result ≡ rule_before (byte_of self) a.now i j }
+    {
+        let x = 8 * i;
+        let y = 8 * j;
+        match self {
+            Rule::LaterDay => bytes::get16(a, y + 6) < bytes::get16(a, x + 6),
+            Rule::LargerRank => a[y + 5] < a[x + 5],
+            Rule::SmallerWeight => a[x + 2] < a[y + 2],
+        }
+    }
+}
 
 // Byte k of the list stands before it too.
 fn is_repeated(list: &[u8], k: usize) -> bool
@@ -22,7 +62,7 @@ fn list_refused(list: &[u8]) -> bool
     if list.is_empty() || 3 < list.len() {
         return true;
     }
-    (0..list.len()).any(|k| is_repeated(list, k) || 2 < list[k])
+    (0..list.len()).any(|k| is_repeated(list, k) || Rule::try_from(list[k]).is_err())
 }
 
 // Inner: refusals 1 to 9 of the base and 22 of the list.
@@ -46,33 +86,19 @@ pub fn rules_of(list: &[u8]) -> [u8; 3]
     rules
 }
 
-// The rule puts policy i of the table A before policy j.
-// The rule stays a byte: `goes_before` is lent any bytes, and an enum would first be made of each by a match like this.
-fn rule_before(rule: u8, a: &[u8], i: usize, j: usize) -> bool
-    requires { (8 * i + 8 ≤ length a.now) × (8 * j + 8 ≤ length a.now) }
-    ensures { result ≡ rule_before rule a.now i j }
-{
-    let x = 8 * i;
-    let y = 8 * j;
-    match rule {
-        0 => bytes::get16(a, y + 6) < bytes::get16(a, x + 6),
-        1 => a[y + 5] < a[x + 5],
-        2 => a[x + 2] < a[y + 2],
-        _ => false,
-    }
-}
-
 // Inner: policy i of the table A goes before policy j by the rules of the list, or else by table order.
 pub fn goes_before(list: &[u8], a: &[u8], i: usize, j: usize) -> bool
     requires { (8 * i + 8 ≤ length a.now) × (8 * j + 8 ≤ length a.now) }
     ensures { result ≡ goes_before list.now a.now i j }
 {
-    for &rule in list {
-        if rule_before(rule, a, i, j) {
-            return true;
-        }
-        if rule_before(rule, a, j, i) {
-            return false;
+    for &byte in list {
+        if let Ok(rule) = Rule::try_from(byte) {
+            if rule.puts_before(a, i, j) {
+                return true;
+            }
+            if rule.puts_before(a, j, i) {
+                return false;
+            }
         }
     }
     i < j

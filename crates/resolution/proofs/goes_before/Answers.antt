@@ -1,10 +1,21 @@
 -- `goes_before` meets its contract: at rule k no rule before it has told the two policies apart.
-use Rattle.std.proofs.Common.{ℕ, suc, ◌+◌, ◌≤◌, ◌<◌, Bool, true, false, cond, ◌||◌, List, ◌≡◌, sym, ◌∙◌}
+use Rattle.std.proofs.Common.{ℕ, suc, ◌+◌, ◌≤◌, ◌<◌, true, false, cond, ◌||◌, List, ◌≡◌, sym, ◌∙◌}
 use Rattle.std.proofs.Common.{length, get_or, drop, ltb, arith, add-one, drop-cons}
+use borrow.Author.Tests.{ne_eqb}
 use lib.ListN.{drop_of_length-le}
 use Rattle.resolution.specs.Resolution.{rule_before, goes_before}
 use Rattle.resolution.proofs.goes_before.Invariants.{Turn}
 use Rattle.resolution.proofs.goes_before.Goals as goal
+use Rattle.resolution.proofs.goes_before.Goals.{in-Ok+else-puts_before+else-puts_before-2, in_default}
+
+-- a byte that is no rule puts none before another
+no_rule : (byte : ℕ) (a : List ℕ) (i j : ℕ) → 2 < byte → false ≡ rule_before byte a i j
+unfolding rule_before
+no_rule byte a i j h =
+    let not_0 = ne_eqb byte 0 (λ e. omega arith) in
+    let not_1 = ne_eqb byte 1 (λ e. omega arith) in
+    let not_2 = ne_eqb byte 2 (λ e. omega arith) in
+    rw (not_0, not_1, not_2)
 
 module _ {list a : List ℕ} {i j k : ℕ} (turn : Turn list a i j k) where
   -- rule k, and those after it
@@ -18,40 +29,40 @@ module _ {list a : List ℕ} {i j k : ℕ} (turn : Turn list a i j k) where
     unfolding goes_before
     next = turn.left ∙ rw (drop-cons list k 0 more)
 
-    first : {r : Bool} → r ≡ rule_before rule a i j → r ≡ true → true ≡ goes_before list a i j
-    first is t = let e = sym is ∙ t in rw (next, e)
+    first : true ≡ rule_before rule a i j → true ≡ goes_before list a i j
+    first t = rw (next, ← t)
 
-    module _ {r : Bool} (is : r ≡ rule_before rule a i j) (f : r ≡ false) where
-      second : {s : Bool} → s ≡ rule_before rule a j i → s ≡ true → false ≡ goes_before list a i j
-      second also t =
-          let e = sym is ∙ f in
-          let g = sym also ∙ t in
-          rw (next, e, g)
+    module _ (f : false ≡ rule_before rule a i j) where
+      second : true ≡ rule_before rule a j i → false ≡ goes_before list a i j
+      second t = rw (next, ← f, ← t)
 
-      again : {s : Bool} → s ≡ rule_before rule a j i → s ≡ false → Turn list a i j (k + 1)
-      again also t =
-          let e = sym is ∙ f in
-          let g = sym also ∙ t in
-          record { within = omega arith; left = next ∙ rw (e, g, add-one) }
+      again : false ≡ rule_before rule a j i → Turn list a i j (k + 1)
+      again g = record { within = omega arith; left = next ∙ rw (← f, ← g, add-one) }
 
   -- no rule is left: table order
   ended : length list ≤ k → ltb i j ≡ goes_before list a i j
   unfolding goes_before
   ended past = sym (turn.left ∙ rw (drop_of_length-le list past))
 
-pub returns-then-rule_before : goal.returns-then-rule_before
-returns-then-rule_before c =
-    first c.loop-rule.invariant c.loop-rule-test.true c.rule_before.ensures c.if-rule_before.true
+pub returns-then-puts_before : goal.returns-then-puts_before
+returns-then-puts_before c =
+    first c.loop-byte.invariant c.loop-byte-test.true (rw c.in-Ok.ensures at c.if-puts_before.ensures)
 
-pub returns-then-rule_before-2 : goal.returns-then-rule_before-2
-returns-then-rule_before-2 c =
-    second c.loop-rule.invariant c.loop-rule-test.true c.rule_before.ensures c.if-rule_before.false
-    c.rule_before-in-loop-rule.ensures c.if-rule_before-2.true
+pub returns-then-puts_before-2 : goal.returns-then-puts_before-2
+returns-then-puts_before-2 c =
+    second c.loop-byte.invariant c.loop-byte-test.true (rw c.in-Ok.ensures at c.if-puts_before.ensures)
+    (rw c.in-Ok.ensures at c.if-puts_before-2.ensures)
 
-pub loop-rule-preserved : goal.loop-rule-preserved
-loop-rule-preserved c =
-    again c.loop-rule.invariant c.loop-rule-test.true c.rule_before.ensures c.if-rule_before.false
-    c.rule_before-in-loop-rule.ensures c.if-rule_before-2.false
+pub loop-byte-preserved : goal.loop-byte-preserved
+loop-byte-preserved c =
+    elim c.match-try_from.branch [
+      | in-Ok+else-puts_before+else-puts_before-2 w ↦
+          again c.loop-byte.invariant c.loop-byte-test.true (rw w.in-Ok.ensures at w.if-puts_before.ensures)
+          (rw w.in-Ok.ensures at w.if-puts_before-2.ensures)
+      | in_default w ↦
+          again c.loop-byte.invariant c.loop-byte-test.true (no_rule _ _ _ _ w.in_default.ensures)
+          (no_rule _ _ _ _ w.in_default.ensures)
+    ]
 
 pub returns : goal.returns
-returns c = ended c.loop-rule.invariant c.loop-rule-test.false
+returns c = ended c.loop-byte.invariant c.loop-byte-test.false

@@ -7,5 +7,7 @@ use Rattle.decision.proofs.conditions.permission_holds.Goals as goal
 pub returns : goal.returns
 unfolding permission_holds
 returns c =
-    any_of_range (clause_of_holds c.args.k.now c.args.permission c.args.attributes.entries c.args.attributes.sum c.args.attributes.roles) (length c.args.k.now / 16) _ _ _ (cc)
-    (λ x b q k. search (rules, tests)) c.any.ensures.ran
+    any_of_range
+    (clause_of_holds c.args.k.now c.args.permission c.args.attributes.entries c.args.attributes.sum
+    c.args.attributes.roles)
+    (length c.args.k.now / 16) _ _ _ (cc) (λ x b q k. search (rules, tests)) c.any.ensures.ran

@@ -1,5 +1,6 @@
 -- `roles_of` meets its contract: the fold adds each entry's role to the set.
-use Rattle.std.proofs.Common.{ℕ, zero, suc, List, ◌≡◌, ◌≤◌, ◌<◌, ◌/◌, ◌^◌, ◌||◌, sym, ap, ◌∙◌, length, bit_or, rules, arith}
+use Rattle.std.proofs.Common.{ℕ, zero, suc, List, ◌≡◌, ◌≤◌, ◌<◌, ◌/◌, ◌^◌, ◌||◌}
+use Rattle.std.proofs.Common.{sym, ap, ◌∙◌, length, bit_or, rules, arith}
 use lib.Bits.{or_lt}
 use lib.Dec.{lit<, eqb}
 use lib.Pow.{pow-lt}
