@@ -22,11 +22,10 @@ pub record Juniors (h bytes : List ℕ) : Type 0 where
 
 -- the rules that a setting carries, in their order; none where no list was lent
 abbrev pub rules_of : Fixed → List ℕ
-rules_of s = take s.listed s.rules
+rules_of s = take s.rules.listed s.rules.bytes
 
--- s is what the base b fixes in the context that s carries; it lists no more rules than it has room for
+-- s is what the base b fixes in the context that s carries
 pub record FixedBy (b : List ℕ) (s : Fixed) : Type 0 where
-  pub few : s.listed ≤ length s.rules
   pub holding : Holding s.at (table_of b contexts) s.contexts
   pub juniors : Juniors (table_of b hierarchy) s.juniors
 

@@ -13,10 +13,12 @@ pub mod contexts;
 mod inherited;
 pub mod operators;
 mod policies;
+mod rules;
 pub mod seniority;
 pub mod sets;
 
 pub use chosen::Chosen;
+pub use rules::Rules;
 
 // A context: parameters 0, 1 and 2 are the minute, the day and the zone.
 #[derive(Clone, Copy)]
@@ -27,14 +29,13 @@ pub struct Context {
 }
 
 // What one base and context fix, with that context: the context numbers that hold, as a set, and each role's juniors,
-// a set a role. With them the rules of a resolution list, so many of the three as are listed; none without a list.
+// a set a role; with them the rules of a resolution list, none without one.
 #[derive(Clone, Copy)]
 pub struct Fixed {
     pub at: Context,
     pub contexts: u32,
     pub juniors: [u8; 8],
-    pub rules: [u8; 3],
-    pub listed: usize,
+    pub rules: Rules,
 }
 
 // Inner: the juniors of each role of an accepted base.
@@ -50,15 +51,7 @@ pub fn setting(base: &[u8], at: Context) -> Fixed
     requires { refusal_of base.now ≡ 0 }
     ensures { (result.at ≡ at) × (rules_of result ≡ []) × FixedBy base.now result }
 {
-    let contexts = contexts::holding(reader::trailer::part(base, reader::Table::Contexts), at);
-    let juniors = juniors_of_base(base);
-    Fixed {
-        at,
-        contexts,
-        juniors,
-        rules: [0; 3],
-        listed: 0,
-    }
+    setting_by(base, at, &[])
 }
 
 // Inner: the setting of an accepted base with a list of at most three rules.
@@ -66,15 +59,13 @@ pub fn setting_by(base: &[u8], at: Context, list: &[u8]) -> Fixed
     requires { (refusal_of base.now ≡ 0) × (length list.now ≤ 3) }
     ensures { (result.at ≡ at) × (rules_of result ≡ list.now) × FixedBy base.now result }
 {
-    let s = setting(base, at);
-    let contexts = s.contexts;
-    let juniors = s.juniors;
+    let contexts = contexts::holding(reader::trailer::part(base, reader::Table::Contexts), at);
+    let juniors = juniors_of_base(base);
     Fixed {
         at,
         contexts,
         juniors,
-        rules: resolution::rules_of(list),
-        listed: list.len(),
+        rules: Rules::of(list),
     }
 }
 
@@ -85,6 +76,5 @@ pub fn choose(base: &[u8], s: Fixed) -> Chosen
     ensures { ChosenBy (rules_of s) base.now s.at result.own result.inh }
 {
     let a = reader::trailer::part(base, reader::Table::Policies);
-    let rules = s.rules;
-    policies::choose(a, s.contexts, &rules[0..s.listed])
+    policies::choose(a, s.contexts, s.rules.as_slice())
 }

@@ -20,10 +20,6 @@ module _ {b t : List ℕ} {s : Fixed} (ok : refusal_of b ≡ 0) (fixed : FixedBy
       AreChosen rules s.contexts t (length t / 8) owns inhs → ChosenBy (rules_of s) b s.at owns inhs
   by_rules {rules} same are = rw same at (chosen_by b ok s fixed rules (rw is at are))
 
--- the part from the front on
-all_listed : (n : ℕ) (rules : List ℕ) → take (n - 0) rules ≡ take n rules
-all_listed n rules = let e : n - 0 ≡ n = omega arith in rw e
-
 pub part-a-requires : goal.part-a-requires
 part-a-requires c = (accepted _ c.requires.0).frame
 
@@ -34,5 +30,4 @@ choose-requires c =
 
 pub returns : goal.returns
 returns c =
-    by_rules c.requires.0 c.requires.1 c.part-a.ensures (all_listed c.args.s.listed c.args.s.rules)
-    c.choose.ensures
+    by_rules c.requires.0 c.requires.1 c.part-a.ensures c.as_slice.ensures c.choose.ensures
