@@ -20,8 +20,9 @@ pub fn hand_on(w: &mut [u8; 8], juniors: [u8; 8], j: u8, x: u8)
     if x == 0 {
         return;
     }
+    // By index: over `iter_mut().zip(..)` the proof would follow the iterator's loans, for the same one line.
     for r in 0..8usize {
-        w[r] = w[r] + share(juniors[r], j, x);
+        w[r] += share(juniors[r], j, x);
     }
 }
 

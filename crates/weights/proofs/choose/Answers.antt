@@ -1,5 +1,5 @@
 -- The table read is the base's, and the pass over it gives what the base has.
-use Rattle.std.proofs.Common.{◌≡◌, ℕ, ◌-◌, ◌≤◌, ◌/◌, List, length, take, false, arith}
+use Rattle.std.proofs.Common.{◌≡◌, ℕ, ◌≤◌, ◌/◌, List, length, false}
 use Rattle.reader.specs.Tables.{policies, table_of}
 use Rattle.reader.specs.Rules.{policies_bad, refusal_of}
 use Rattle.reader.proofs.Accepted.{accepted}
