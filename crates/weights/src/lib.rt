@@ -38,7 +38,8 @@ pub struct Fixed {
     pub rules: Rules,
 }
 
-// Inner: the juniors of each role of an accepted base.
+// Inner: the juniors of each role of an accepted base. A type for them could say nothing of the base's table, which
+// their bytes don't name.
 pub fn juniors_of_base(base: &[u8]) -> [u8; 8]
     requires { refusal_of base.now ≡ 0 }
     ensures { Juniors (table_of base.now hierarchy) result }

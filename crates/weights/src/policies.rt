@@ -24,7 +24,8 @@ pub fn place_of(permission: u8, role: u8) -> usize
     8 * bytes::wide(permission) + bytes::wide(role)
 }
 
-// Of each role and permission the policy that counts so far, by its number, and its weight; 0 where none does.
+// Of each role and permission the policy that counts so far, by its number, and its weight; 0 where none does. Two
+// arrays, so that the weights are handed on as they stand.
 #[derive(Clone, Copy)]
 struct Kept {
     policy: [u8; 128],
@@ -62,6 +63,7 @@ pub fn choose(a: &[u8], contexts: u32, list: &[u8]) -> Chosen
         weight: [0; 128],
     };
     let mut one = any;
+    // No fold: its closure would hand on 512 bytes a turn.
     for i in 0..a.len() / 8 {
         let at = 8 * i;
         if in_force(contexts, a[at + 4]) {

@@ -1,4 +1,4 @@
-// Sets of small numbers as one number: bit r for r.
+// Sets of small numbers as one number: bit r for r. One function a width: a trait would say the same shift three times.
 ghost use Rattle.std.specs.Prelude.{◌≡◌, ◌^◌, ◌<◌};
 ghost use Rattle.folds.specs.Sets.{in_set};
 
