@@ -6,153 +6,125 @@ ghost use Rattle.reader.specs.Rules.{contexts_bad};
 ghost use Rattle.related.specs.Related.{clause_of, fits_at, fits, both_fit, value_fits, some_value_fits};
 ghost use Rattle.related.specs.Related.{meetable, compatible, joins, related};
 
-use reader::bytes;
+use reader::{RANGES, bytes};
 
-// How many values a context's parameter has: minute, day, zone.
-const RANGES: [u32; 3] = [1440, 7, 256];
-
-// Clause i is one of the context number; 255 counts as one clause without conditions, behind the others.
-fn clause_of(c: &[u8], number: u8, i: usize) -> bool
-    ensures { result ≡ clause_of c.now number i }
-{
-    if i < c.len() / 16 {
-        return c[16 * i] == number;
-    }
-    number == 255
+// A table C that passed the check.
+#[derive(Clone, Copy)]
+pub struct Clauses<'a> {
+    pub table: &'a [u8],
+    ghost fine: { contexts_bad table.now ≡ false },
+    ghost whole: { length table.now ≡ 16 * record_count contexts table.now },
 }
 
-// The number of conditions of clause i; none behind the table.
-fn length_of(c: &[u8], i: usize) -> usize
-    requires { (contexts_bad c.now ≡ false) × (length c.now ≡ 16 * record_count contexts c.now) }
-    ensures { (result ≡ context_length c.now i) × (result ≤ 3) }
-{
-    if i < c.len() / 16 {
-        return c[16 * i + 1] as usize;
-    }
-    0
-}
-
-// Value v of parameter p meets condition k of clause i, where that is on p.
-fn fits_at(c: &[u8], i: usize, p: u8, v: u32, k: usize) -> bool
-    requires { (16 * i + 16 ≤ length c.now) × (k < 3) }
-    ensures { result ≡ fits_at c.now i p v k }
-{
-    let at = 16 * i + 4 * k;
-    if c[at + 2] != p {
-        return true;
-    }
-    weights::operators::is_met(c[at + 3], v, bytes::get16(c, at + 4) as u32)
-}
-
-// Value v of parameter p meets the conditions of clause i on that parameter.
-fn fits_all(c: &[u8], i: usize, p: u8, v: u32) -> bool
-    requires { (contexts_bad c.now ≡ false) × (length c.now ≡ 16 * record_count contexts c.now) }
-    ensures { result ≡ fits c.now i p v }
-{
-    for k in 0..length_of(c, i) {
-        if !fits_at(c, i, p, v, k) {
-            return false;
+impl Clauses<'_> {
+    // Clause i is one of the context number; 255 counts as one clause without conditions, behind the others.
+    fn clause_of(&self, number: u8, i: usize) -> bool
+        ensures { result ≡ clause_of self.now.table.now number i }
+    {
+        if i < self.table.len() / 16 {
+            self.table[16 * i] == number
+        } else {
+            number == 255
         }
     }
-    true
-}
 
-fn both_fit(c: &[u8], i: usize, j: usize, p: u8, v: u32) -> bool
-    requires { (contexts_bad c.now ≡ false) × (length c.now ≡ 16 * record_count contexts c.now) × (p < 3) }
-    ensures { result ≡ both_fit c.now i j p v }
-{
-    if RANGES[p as usize] <= v {
-        return false;
-    }
-    if !fits_all(c, i, p, v) {
-        return false;
-    }
-    fits_all(c, j, p, v)
-}
-
-// Condition k of clause s is on parameter p, and its value, or one more, meets the conditions of clauses i and j.
-fn value_fits(c: &[u8], s: usize, i: usize, j: usize, p: u8, k: usize) -> bool
-    requires { (contexts_bad c.now ≡ false) × (length c.now ≡ 16 * record_count contexts c.now) × (p < 3)
-        × (16 * s + 16 ≤ length c.now) × (k < 3) }
-    ensures { result ≡ value_fits c.now s i j p k }
-{
-    let at = 16 * s + 4 * k;
-    if c[at + 2] != p {
-        return false;
-    }
-    let value = bytes::get16(c, at + 4) as u32;
-    if both_fit(c, i, j, p, value) {
-        return true;
-    }
-    both_fit(c, i, j, p, value + 1)
-}
-
-// Some condition's value of clause s, or one more, does.
-fn some_value_fits(c: &[u8], s: usize, i: usize, j: usize, p: u8) -> bool
-    requires { (contexts_bad c.now ≡ false) × (length c.now ≡ 16 * record_count contexts c.now) × (p < 3) }
-    ensures { result ≡ some_value_fits c.now s i j p }
-{
-    for k in 0..length_of(c, s) {
-        if value_fits(c, s, i, j, p, k) {
-            return true;
+    // The number of conditions of clause i; none behind the table.
+    fn length_of(&self, i: usize) -> usize
+        ensures { (result ≡ context_length self.now.table.now i) × (result ≤ 3) }
+    {
+        if i < self.table.len() / 16 {
+            self.table[16 * i + 1] as usize
+        } else {
+            0
         }
     }
-    false
-}
 
-fn can_meet(c: &[u8], i: usize, j: usize, p: u8) -> bool
-    requires { (contexts_bad c.now ≡ false) × (length c.now ≡ 16 * record_count contexts c.now) × (p < 3) }
-    ensures { result ≡ meetable c.now i j p }
-{
-    if both_fit(c, i, j, p, 0) {
-        return true;
+    // Value v of parameter p meets condition k of clause i, where that is on p.
+    fn fits_at(&self, i: usize, p: u8, v: u32, k: usize) -> bool
+        requires { (16 * i + 16 ≤ length self.now.table.now) × (k < 3) }
+        ensures { result ≡ fits_at self.now.table.now i p v k }
+    {
+        let at = 16 * i + 4 * k;
+        self.table[at + 2] != p
+            || weights::operators::is_met(
+                self.table[at + 3],
+                v,
+                bytes::get16(self.table, at + 4) as u32,
+            )
     }
-    if some_value_fits(c, i, i, j, p) {
-        return true;
-    }
-    some_value_fits(c, j, i, j, p)
-}
 
-// Clauses i and j can hold together.
-fn are_compatible(c: &[u8], i: usize, j: usize) -> bool
-    requires { (contexts_bad c.now ≡ false) × (length c.now ≡ 16 * record_count contexts c.now) }
-    ensures { result ≡ compatible c.now i j }
-{
-    for p in 0..3u8 {
-        if !can_meet(c, i, j, p) {
-            return false;
-        }
+    // Value v of parameter p meets the conditions of clause i on that parameter.
+    fn fits_all(&self, i: usize, p: u8, v: u32) -> bool
+        ensures { result ≡ fits self.now.table.now i p v }
+    {
+        (0..self.length_of(i)).all(|k| self.fits_at(i, p, v, k))
     }
-    true
-}
 
-// Clause j of the context number can hold together with clause i.
-fn joins_clause(c: &[u8], number: u8, i: usize, j: usize) -> bool
-    requires { (contexts_bad c.now ≡ false) × (length c.now ≡ 16 * record_count contexts c.now) }
-    ensures { result ≡ joins c.now number i j }
-{
-    if !clause_of(c, number, j) {
-        return false;
+    fn both_fit(&self, i: usize, j: usize, p: u8, v: u32) -> bool
+        requires { p < 3 }
+        ensures { result ≡ both_fit self.now.table.now i j p v }
+    {
+        v < RANGES[p as usize] as u32 && self.fits_all(i, p, v) && self.fits_all(j, p, v)
     }
-    are_compatible(c, i, j)
-}
 
-// Inner: the context numbers x and y are related, by a table C that passed the check.
-pub fn are_related(c: &[u8], x: u8, y: u8) -> bool
-    requires { (contexts_bad c.now ≡ false) × (length c.now ≡ 16 * record_count contexts c.now) }
-    ensures { result ≡ related c.now x y }
-{
-    let end = c.len() / 16 + 1;
-    let mut found = false;
-    'pairs: for i in 0..end {
-        if clause_of(c, x, i) {
-            for j in 0..end {
-                if joins_clause(c, y, i, j) {
-                    found = true;
-                    break 'pairs;
+    // Condition k of clause s is on parameter p, and its value, or one more, meets the conditions of clauses i and j.
+    fn value_fits(&self, s: usize, i: usize, j: usize, p: u8, k: usize) -> bool
+        requires { (p < 3) × (16 * s + 16 ≤ length self.now.table.now) × (k < 3) }
+        ensures { result ≡ value_fits self.now.table.now s i j p k }
+    {
+        let at = 16 * s + 4 * k;
+        let value = bytes::get16(self.table, at + 4) as u32;
+        self.table[at + 2] == p
+            && (self.both_fit(i, j, p, value) || self.both_fit(i, j, p, value + 1))
+    }
+
+    // Some condition's value of clause s, or one more, does.
+    fn some_value_fits(&self, s: usize, i: usize, j: usize, p: u8) -> bool
+        requires { p < 3 }
+        ensures { result ≡ some_value_fits self.now.table.now s i j p }
+    {
+        (0..self.length_of(s)).any(|k| self.value_fits(s, i, j, p, k))
+    }
+
+    fn can_meet(&self, i: usize, j: usize, p: u8) -> bool
+        requires { p < 3 }
+        ensures { result ≡ meetable self.now.table.now i j p }
+    {
+        self.both_fit(i, j, p, 0)
+            || self.some_value_fits(i, i, j, p)
+            || self.some_value_fits(j, i, j, p)
+    }
+
+    // Clauses i and j can hold together.
+    fn are_compatible(&self, i: usize, j: usize) -> bool
+        ensures { result ≡ compatible self.now.table.now i j }
+    {
+        (0..3u8).all(|p| self.can_meet(i, j, p))
+    }
+
+    // Clause j of the context number can hold together with clause i.
+    fn joins_clause(&self, number: u8, i: usize, j: usize) -> bool
+        ensures { result ≡ joins self.now.table.now number i j }
+    {
+        self.clause_of(number, j) && self.are_compatible(i, j)
+    }
+
+    // Inner: the context numbers x and y are related. Document 01 asks for nested loops that a label leaves.
+    pub fn are_related(&self, x: u8, y: u8) -> bool
+        ensures { result ≡ related self.now.table.now x y }
+    {
+        let end = self.table.len() / 16 + 1;
+        let mut found = false;
+        'pairs: for i in 0..end {
+            if self.clause_of(x, i) {
+                for j in 0..end {
+                    if self.joins_clause(y, i, j) {
+                        found = true;
+                        break 'pairs;
+                    }
                 }
             }
         }
+        found
     }
-    found
 }

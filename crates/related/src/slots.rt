@@ -5,26 +5,21 @@ ghost use Rattle.reader.specs.Tables.{contexts, record_count};
 ghost use Rattle.reader.specs.Rules.{contexts_bad, policies_bad};
 ghost use Rattle.related.specs.Slots.{slot_of, number_at, named, related_slots, Relations};
 
-use crate::clauses;
+use crate::clauses::Clauses;
+use std::array;
 
-// Inner: the place of a context number: 0 to 15, and 16 for 255.
+// Inner: the place of a context number: 0 to 15, and 16 for 255, which the format writes for no context.
 pub fn slot(number: u8) -> u8
     requires { (number ≤ 15) ⊎ (number ≡ 255) }
     ensures { (result ≡ slot_of number) × (result ≤ 16) }
 {
-    if number == 255 {
-        return 16;
-    }
-    number
+    if number == 255 { 16 } else { number }
 }
 
 fn number_at(s: u8) -> u8
     ensures { result ≡ number_at s }
 {
-    if s == 16 {
-        return 255;
-    }
-    s
+    if s == 16 { 255 } else { s }
 }
 
 // Inner: the set of the slots that the policies name.
@@ -32,41 +27,27 @@ pub fn names(a: &[u8]) -> u32
     requires { policies_bad 8 256 a.now ≡ false }
     ensures { (s : ℕ) → in_set result s ≡ named a.now s }
 {
-    let mut set: u32 = 0;
-    for i in 0..a.len() / 8 {
-        set = set | weights::sets::bit(slot(a[8 * i + 4]));
-    }
-    set
+    (0..a.len() / 8).fold(0, |set, i| set | weights::sets::bit(slot(a[8 * i + 4])))
 }
 
 // Slots s and t are named, s isn't above t, and their numbers are related.
-fn slots_related(c: &[u8], names: u32, s: u8, t: u8) -> bool
-    requires { (contexts_bad c.now ≡ false) × (length c.now ≡ 16 * record_count contexts c.now) × (s < 17) × (t < 17) }
-    ensures { result ≡ related_slots c.now names s t }
+fn slots_related(c: &Clauses, names: u32, s: u8, t: u8) -> bool
+    requires { (s < 17) × (t < 17) }
+    ensures { result ≡ related_slots c.now.table.now names s t }
 {
-    if !weights::sets::in_set(names, s) {
-        return false;
-    }
-    if !weights::sets::in_set(names, t) {
-        return false;
-    }
-    if t < s {
-        return false;
-    }
-    clauses::are_related(c, number_at(s), number_at(t))
+    weights::sets::in_set(names, s)
+        && weights::sets::in_set(names, t)
+        && s <= t
+        && c.are_related(number_at(s), number_at(t))
 }
 
-fn relation_row(c: &[u8], names: u32, s: u8) -> u32
-    requires { (contexts_bad c.now ≡ false) × (length c.now ≡ 16 * record_count contexts c.now) × (s < 17) }
-    ensures { (t : ℕ) → t < 17 → in_set result t ≡ related_slots c.now names s t }
+fn relation_row(c: &Clauses, names: u32, s: u8) -> u32
+    requires { s < 17 }
+    ensures { (t : ℕ) → t < 17 → in_set result t ≡ related_slots c.now.table.now names s t }
 {
-    let mut row: u32 = 0;
-    for t in 0..17u8 {
-        if slots_related(c, names, s, t) {
-            row = row | weights::sets::bit(t);
-        }
-    }
-    row
+    (0..17u8)
+        .filter(|t| slots_related(c, names, s, *t))
+        .fold(0, |row, t| row | weights::sets::bit(t))
 }
 
 // Inner: the related slots, a row a slot.
@@ -74,9 +55,6 @@ pub fn relations(c: &[u8], names: u32) -> [u32; 17]
     requires { (contexts_bad c.now ≡ false) × (length c.now ≡ 16 * record_count contexts c.now) }
     ensures { Relations c.now names result }
 {
-    let mut rows = [0u32; 17];
-    for s in 0..17usize {
-        rows[s] = relation_row(c, names, s as u8);
-    }
-    rows
+    let clauses = Clauses { table: c };
+    array::from_fn(|s| relation_row(&clauses, names, s as u8))
 }

@@ -1,39 +1,28 @@
--- `names` meets its contract: each turn adds the slot of one policy's context number.
-use Rattle.std.proofs.Common.{ℕ, ◌+◌, ◌^◌, ◌≤◌, ◌<◌, List, ◌≡◌, sym, ◌∙◌, arith, bit_or}
-use Rattle.folds.specs.Sets.{in_set}
-use Rattle.folds.proofs.Sets.{in_none, in_added}
-use Rattle.folds.proofs.Tests.{any_none, any_next}
-use Rattle.reader.specs.Tables.{policies, record_count}
+-- `names` meets its contract: it adds the slot of each policy's context number.
+use Rattle.std.proofs.Common.{◌^◌, ◌/◌, length, rules, arith, bit_or, eqb}
+use Rattle.std.proofs.lemmas.Iterator.{YieldsList-from_range}
+use Rattle.std.proofs.lemmas.Iterator.Consumers.{fold_from_yields_List}
+use Rattle.std.specs.List.{range_with_len}
+use Rattle.folds.proofs.Chains.{any_chain}
+use Rattle.folds.proofs.Sets.{in_none}
 use Rattle.reader.specs.Fields.{policy_context}
 use Rattle.reader.proofs.Accepted.{policy_fine}
 use Rattle.related.specs.Slots.{slot_of, named}
-use Rattle.related.proofs.slots.names.Invariants.{Turn}
+use Rattle.related.proofs.Chains.{serves_fold, in_gathered}
 use Rattle.related.proofs.slots.names.Goals as goal
 
-no_turn : {a : List ℕ} → Turn a 0 0
-no_turn = record { within = omega arith; has = λ s. in_none s ∙ sym (any_none _) }
-
-module _ {a : List ℕ} {set i : ℕ} (turn : Turn a set i) where
-  more : {slot bit : ℕ} → i < record_count policies a → slot ≡ slot_of (policy_context a i) → bit ≡ 2 ^ slot →
-      Turn a (bit_or set bit) (i + 1)
-  more l is one = record {
-    within = omega arith;
-    has = λ s. rw (one, is) (in_added set (slot_of (policy_context a i)) s ∙ rw (turn.has s, any_next));
-  }
-
-  all : record_count policies a ≤ i → (s : ℕ) → in_set set s ≡ named a s
-  unfolding named
-  all l s = let e : i ≡ record_count policies a = omega (arith, turn.within) in rw e at (turn.has s)
-
-pub loop-i-init : goal.loop-i-init
-loop-i-init c = no_turn
-
-pub slot-requires : goal.slot-requires
-slot-requires c = (policy_fine 8 256 c.args.a.now c.loop-i.i c.requires c.loop-i-test.true).context
-
-pub loop-i-preserved : goal.loop-i-preserved
-loop-i-preserved c =
-    more c.loop-i.invariant c.loop-i-test.true c.slot.ensures.0 c.bit-set.ensures
+pub fold-requires-clause-callable : goal.fold-requires-clause-callable
+fold-requires-clause-callable c =
+    serves_fold (length c.args.a.now / 8) (cc) (λ s i q k. search rules)
+    (λ s i l. let fine = policy_fine 8 256 c.args.a.now i c.requires l in search rules)
 
 pub returns : goal.returns
-returns c = all c.loop-i.invariant c.loop-i-test.false
+unfolding named
+returns c =
+    let f = λ (i : _). slot_of (policy_context c.args.a.now i) in
+    let n = length c.args.a.now / 8 in
+    let gathered =
+    fold_from_yields_List _ (λ s i. bit_or s (2 ^ f i)) _ _ c.fold.ensures.ran
+    (YieldsList-from_range 0 n n (cc) (omega arith)) (λ s i t q k. search rules) in
+    λ s.
+    rw (gathered, in_gathered f (range_with_len 0 n) 0 s, in_none) (any_chain (λ i. eqb (f i) s) n)

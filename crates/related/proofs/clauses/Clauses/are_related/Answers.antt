@@ -6,9 +6,9 @@ use Rattle.folds.proofs.Bools.{and_both}
 use Rattle.folds.proofs.Searches.{none_at_first, none_further, one_found, none_found}
 use Rattle.related.specs.Related.{clause_of, joins, meets_some}
 use Rattle.related.proofs.Relating.{related_pairs}
-use Rattle.related.proofs.clauses.are_related.Invariants.{clause_count, Outer, Inner}
-use Rattle.related.proofs.clauses.are_related.Goals as goal
-use Rattle.related.proofs.clauses.are_related.Goals.{then-clause_of+else-loop-j-test, else-clause_of}
+use Rattle.related.proofs.clauses.Clauses.are_related.Invariants.{clause_count, Outer, Inner}
+use Rattle.related.proofs.clauses.Clauses.are_related.Goals as goal
+use Rattle.related.proofs.clauses.Clauses.are_related.Goals.{then-clause_of+else-loop-j-test, else-clause_of}
 
 next_inner : {c : List ℕ} {y : ℕ} {found : Bool} {i j : ℕ} {r : Bool} → Inner c y found i j → j < clause_count c →
     r ≡ joins c y i j → r ≡ false → Inner c y found i (j + 1)
@@ -62,10 +62,10 @@ pub returns-after-pairs : goal.returns-after-pairs
 returns-after-pairs c =
     let outer = c.pairs.invariant in
     outer.unfound ∙ none_found outer.unmatched c.pairs-test.false
-    ∙ sym (related_pairs c.args.c.now c.requires.0 c.requires.1 c.args.x c.args.y)
+    ∙ sym (related_pairs c.args.self.now.table.now c.args.self.now.fine c.args.self.now.whole c.args.x c.args.y)
 
 pub returns-then-joins_clause : goal.returns-then-joins_clause
 returns-then-joins_clause c =
     match c.pairs.invariant c.pairs-test.true c.clause_of.ensures c.if-clause_of.true c.loop-j.invariant
     c.loop-j-test.true c.joins_clause.ensures c.if-joins_clause.true
-    ∙ sym (related_pairs c.args.c.now c.requires.0 c.requires.1 c.args.x c.args.y)
+    ∙ sym (related_pairs c.args.self.now.table.now c.args.self.now.fine c.args.self.now.whole c.args.x c.args.y)
