@@ -2,21 +2,26 @@
 use Prim.Native.Nat.{ℕ, zero, suc, ◌+◌, ◌-◌, ◌*◌, ◌^◌, ◌<◌, ◌≤◌}
 use mathlib.Core.Bool.{Bool, true, false, ◌&&◌, not, cond, and-true}
 use mathlib.Core.Path.{◌≡◌, refl, sym, ap, ap₂, ◌∙◌}
-use mathlib.Core.List.{List, [], ◌∷◌, ◌++◌}
-use native.Mathlib.Numerals.{add-one, add-two}
+use mathlib.Core.List.{List, [], ◌∷◌, ◌++◌, append_assoc}
+use native.Mathlib.Numerals.{add-one}
 use native.Mathlib.Nat.{add-zero, zero-add, not-suc-le-zero}
 use native.Mathlib.Omega.{arith}
+use borrow.Rule.Slice.PartMut.{put_mid}
 use borrow.Author.Tests.{lt-ltb, le-ltb, eq-eqb, ne_eqb}
 use lib.Bits.{bit_and}
 use lib.Count.{ones, count_trailing_zeros}
 use lib.Dec.{ltb, eqb}
-use lib.ListN.{length, get_or, set, drop, length-append}
+use lib.ListN.{length, get_or, take, drop, length-append}
 use lib.Seq.{sets, sets-eq, length-sets}
+use Rattle.std.specs.List.{sum_by}
+use Rattle.std.proofs.lemmas.List.Edits.{paste_all}
+use Rattle.std.proofs.lemmas.List.Sums.{sum_by_more}
+use Rattle.std.proofs.lemmas.Slice.{put_mid-paste}
 use Rattle.folds.specs.Below.{sum_below, count_below, join_below}
 use Rattle.folds.specs.Sets.{in_set}
 use Rattle.folds.proofs.Lists.{join_none, join_more, join_tail, join_length, join_same, sets-append}
 use Rattle.folds.proofs.Tests.{split}
-use Rattle.folds.proofs.Numbers.{sum_le_sum, count_none, count_more}
+use Rattle.folds.proofs.Numbers.{sum_le_sum, count_none, count_more, count_le}
 use Rattle.folds.proofs.Sets.{in_none, ones_set, set_of_members}
 use Rattle.reader.specs.Rules.{refusal_of}
 use Rattle.conflicts.proofs.Tables.{few_policies, few_exclusions}
@@ -25,13 +30,14 @@ use Rattle.reader.specs.Tables.{users, policies, table_of, record_count}
 use Rattle.conflicts.specs.Conflicts.{pairs_below, conflicts, conflict_count}
 use Rattle.conflicts.specs.Rows.{Rows, Contradictions, Overlaps, Holders, row_records, rows_records, all_records}
 
--- three stores side by side, and then the rest
-pub sets_record : (l : List ℕ) (i x y z : ℕ) (r : List ℕ) →
-    sets (set (set (set l i x) (i + 1) y) (i + 2) z) (i + 3) r ≡ sets l i (x ∷ y ∷ z ∷ r)
-sets_record l i x y z r = three ∙ sym (sets-append l i (x ∷ y ∷ z ∷ []) r)
-  where
-    three : sets (set (set (set l i x) (i + 1) y) (i + 2) z) (i + 3) r ≡ sets (sets l i (x ∷ y ∷ z ∷ [])) (i + 3) r
-    three = rw (add-one, add-two)
+-- the bytes of a record put in their place
+pub put_record : (out now : List ℕ) (at n : ℕ) (xs : List ℕ) → n ≡ length xs → at + n ≤ length out → now ≡ xs →
+    put_mid at (at + n - at) out now ≡ sets out at xs
+put_record out now at n xs size room is =
+    put_mid-paste at (at + n - at) out now xs n is (omega arith) size
+    ∙ paste_all out at xs n size
+    ∙ rw size
+      (sym (sets-eq xs out at (rw (← size) room) ∙ append_assoc (take at out) xs (drop (at + length xs) out)))
 
 -- `now` is `out` with `xs` written over it from `at` on, and `next` is the place behind them
 pub record Wrote (out : List ℕ) (at : ℕ) (xs now : List ℕ) (next : ℕ) : Type 0 where
@@ -138,11 +144,29 @@ row_length kind first p (suc m) =
     three true = refl
     three false = refl
 
--- 3 bytes for each bit of a row
-pub ones_length : (kind first row : ℕ) → row < 2 ^ 64 → 3 * ones row ≡ length (row_records kind first row)
-unfolding row_records
-ones_length kind first row h =
-    rw (row_length kind first (in_set row) 64, ← ones_set (in_set row) 64, set_of_members 64 row h)
+-- how many bits a row has
+abbrev pub members : ℕ → ℕ
+members row = count_below 64 (in_set row)
+
+pub ones_members : (row : ℕ) → row < 2 ^ 64 → (ones row ≡ members row) × (members row ≤ 64)
+ones_members row h =
+    (ap ones (sym (set_of_members 64 row h)) ∙ ones_set (in_set row) 64, count_le (in_set row) 64)
+
+-- 3 bytes for each bit of the first n rows, which are at most 64 bits each
+module _ (rows : List ℕ) where
+  pub rows_length : (kind n : ℕ) → n ≤ length rows →
+      3 * sum_by members (take n rows) ≡ length (rows_records kind rows n)
+  unfolding row_records
+  rows_length kind zero l = rw (rows_none kind rows)
+  rows_length kind (suc n) l =
+      rw (← add-one n, sum_by_more members rows n 0 l, rows_more, length-append)
+      (omega (arith, rows_length kind n (omega arith), row_length kind n (in_set (get_or rows n 0)) 64))
+
+  pub rows_bits : (n : ℕ) → n ≤ length rows → sum_by members (take n rows) ≤ 64 * n
+  rows_bits zero l = omega arith
+  rows_bits (suc n) l =
+      rw (← add-one n, sum_by_more members rows n 0 l)
+      (omega (arith, rows_bits n (omega arith), count_le (in_set (get_or rows n 0)) 64))
 
 -- 3 bytes for each pair of which p holds
 pairs_length : (kind m : ℕ) (p : ℕ → ℕ → Bool) (n : ℕ) →

@@ -6,31 +6,31 @@ ghost use Rattle.weights.specs.Setting.{Juniors};
 ghost use Rattle.conflicts.specs.Conflicts.{covers, excludes};
 ghost use Rattle.conflicts.specs.Rows.{Covers, Excluded};
 
+use std::array;
+use weights::sets;
+
 // The set of the roles that have j among their juniors.
-fn seniors_of(juniors: [u8; 8], j: u8) -> u8
+fn seniors_of(juniors: &[u8; 8], j: u8) -> u8
     requires { j < 8 }
-    ensures { (s : ℕ) → s < 8 → in_set result s ≡ in_set (get_or juniors s 0) j }
+    ensures { (s : ℕ) → s < 8 → in_set result s ≡ in_set (get_or juniors.now s 0) j }
 {
-    let mut set: u8 = 0;
-    for s in 0..8u8 {
-        if weights::sets::in_set(juniors[s as usize] as u32, j) {
-            set = set | weights::sets::role_bit(s);
-        }
-    }
-    set
+    (0..8u8)
+        .filter(|s| sets::in_set(juniors[*s as usize] as u32, j))
+        .fold(0, |set, s| set | sets::role_bit(s))
 }
 
 // The set of the roles that policy i covers.
-fn cover(a: &[u8], i: usize, juniors: [u8; 8]) -> u8
+fn cover(a: &[u8], i: usize, juniors: &[u8; 8]) -> u8
     requires { (i < length a.now / 8) × (policies_bad 8 256 a.now ≡ false) }
-    ensures { (h : List ℕ) → Juniors h juniors → (s : ℕ) → s < 8 → in_set result s ≡ covers h a.now i s }
+    ensures { (h : List ℕ) → Juniors h juniors.now → (s : ℕ) → s < 8 → in_set result s ≡ covers h a.now i s }
 {
     let role = a[8 * i];
-    let own = weights::sets::role_bit(role);
-    if a[8 * i + 3] != 1 {
-        return own;
+    let own = sets::role_bit(role);
+    if a[8 * i + 3] == 1 {
+        own | seniors_of(juniors, role)
+    } else {
+        own
     }
-    own | seniors_of(juniors, role)
 }
 
 // Inner: the sets of the roles that the policies cover.
@@ -39,39 +39,32 @@ pub fn cover_sets(h: &[u8], a: &[u8]) -> [u8; 64]
     ensures { Covers h.now a.now result }
 {
     let juniors = weights::seniority::juniors(h);
-    let mut sets = [0u8; 64];
-    for i in 0..a.len() / 8 {
-        sets[i] = cover(a, i, juniors);
-    }
-    sets
+    let count = a.len() / 8;
+    array::from_fn(|i| if i < count { cover(a, i, &juniors) } else { 0 })
 }
 
 // Adds q to the set of p.
-fn add_pair(sets: &mut [u32; 16], p: u8, q: u8)
-    requires { (p < 16) × (q < 16) × (length sets.old ≡ 16) }
-    ensures { (length sets.new ≡ 16)
-        × ((s t : ℕ) → in_set (get_or sets.new s 0) t
-        ≡ (in_set (get_or sets.old s 0) t || (eqb p s && eqb q t))) }
+fn add_pair(excluded: &mut [u32; 16], p: u8, q: u8)
+    requires { (p < 16) × (q < 16) }
+    ensures { (s t : ℕ) → in_set (get_or excluded.new s 0) t
+        ≡ (in_set (get_or excluded.old s 0) t || (eqb p s && eqb q t)) }
 {
-    let at = p as usize;
-    sets[at] = sets[at] | weights::sets::bit(q);
+    excluded[p as usize] |= sets::bit(q);
 }
 
 // Adds to the sets what exclusion record e says, if it is of kind 1.
-fn add_exclusion(sets: &mut [u32; 16], x: &[u8], e: usize)
-    requires { (e < length x.now / 3) × (exclusions_bad 8 16 x.now ≡ false) × (length sets.old ≡ 16) }
-    ensures { (length sets.new ≡ 16)
-        × ((s t : ℕ) → in_set (get_or sets.new s 0) t
-        ≡ (in_set (get_or sets.old s 0) t || excludes x.now s t e)) }
+fn add_exclusion(excluded: &mut [u32; 16], x: &[u8], e: usize)
+    requires { (e < length x.now / 3) × (exclusions_bad 8 16 x.now ≡ false) }
+    ensures { (s t : ℕ) → in_set (get_or excluded.new s 0) t
+        ≡ (in_set (get_or excluded.old s 0) t || excludes x.now s t e) }
 {
     let at = 3 * e;
-    if x[at] != 1 {
-        return;
+    if x[at] == 1 {
+        let p = x[at + 1];
+        let q = x[at + 2];
+        add_pair(excluded, p, q);
+        add_pair(excluded, q, p);
     }
-    let p = x[at + 1];
-    let q = x[at + 2];
-    add_pair(sets, p, q);
-    add_pair(sets, q, p);
 }
 
 // Inner: the permissions that each permission excludes, a set a permission.
@@ -79,9 +72,10 @@ pub fn excluded_sets(x: &[u8]) -> [u32; 16]
     requires { exclusions_bad 8 16 x.now ≡ false }
     ensures { Excluded x.now result }
 {
-    let mut sets = [0u32; 16];
+    let mut excluded = [0; 16];
+    // A record adds to two of the sets, so that no chain makes them one by one.
     for e in 0..x.len() / 3 {
-        add_exclusion(&mut sets, x, e);
+        add_exclusion(&mut excluded, x, e);
     }
-    sets
+    excluded
 }

@@ -17,18 +17,18 @@ pub fn list(base: &[u8], out: &mut [u8]) -> Result<u32, Refused>
         × (out.new ≡ conflict_bytes base.now out.old) }
 {
     reader::check(base)?;
-    let one = &rows::contradictions(base);
-    let two = &rows::overlaps(base);
-    let three = &rows::holders(base);
-    let n = reader::trailer::part(base, reader::Table::Policies).len() / 8;
-    let m = reader::trailer::part(base, reader::Table::Users).len() / 4;
-    let count = writing::count_all(one, two, n, three, m);
+    let one = rows::contradictions(base);
+    let two = rows::overlaps(base);
+    let three = rows::holders(base);
+    let count = one.count() + two.count() + three.count();
     if out.len() < 3 * (count as usize) {
         return Err(Refused {
             refusal: Refusal::ConflictRoom,
             count,
         });
     }
-    writing::write_all(out, one, two, n, three, m);
+    let behind = one.write(out, 0);
+    let last = two.write(out, behind);
+    three.write(out, last);
     Ok(count)
 }

@@ -1,20 +1,73 @@
 // The conflicts of each kind as rows of bits, a row for each first.
-ghost use Rattle.std.specs.Prelude.{◌≡◌, false, ◌&&◌, not, ◌⊎◌, ℕ, ◌+◌, ◌*◌, ◌/◌, ◌≤◌, ◌<◌, length, get_or, ltb, eqb};
+ghost use Rattle.std.specs.Prelude.{◌≡◌, false, ◌&&◌, ◌⊎◌, ℕ, Bool, ◌+◌, ◌*◌, ◌/◌, ◌≤◌, ◌<◌, length, get_or, ltb};
 ghost use Rattle.folds.specs.Sets.{in_set};
 ghost use Rattle.reader.specs.Rules.{policies_bad, refusal_of};
+ghost use Rattle.reader.specs.Tables.{users, policies, table_of, record_count};
 ghost use Rattle.conflicts.specs.Conflicts.{disagree, holds_both};
+ghost use Rattle.conflicts.specs.Kinds.{kind_number};
 ghost use Rattle.conflicts.specs.Rows.{related_by, contradict_by, overlap_by, Contradictions, Overlaps, Holders};
 
 use crate::covers;
-use reader::trailer;
+use reader::{Table, codes, trailer};
 use related::slots;
+use std::array;
+use weights::sets;
 
-// The bytes at p and q are different.
-fn differ(a: &[u8], p: usize, q: usize) -> bool
-    requires { (p < length a.now) × (q < length a.now) }
-    ensures { result ≡ not (eqb (get_or a.now p 0) (get_or a.now q 0)) }
+// The kinds of conflict, by the number that stands first in a record.
+#[derive(Clone, Copy)]
+pub enum Kind {
+    Contradiction = 1,
+    Overlap = 2,
+    Holder = 3,
+}
+
+impl Kind {
+    // Inner: its number.
+    pub fn number(self) -> u8
+        ensures { result ≡ kind_number self }
+    {
+        self as u8
+    }
+}
+
+// The conflicts of one kind: a row for each first, with the bits of those that come second beside it.
+#[derive(Drop)]
+pub struct Conflicts {
+    pub kind: Kind,
+    pub firsts: usize,
+    pub rows: [u64; 64],
+    ghost few: { firsts ≤ 64 },
+}
+
+// The set of the numbers from `from` on that lie before `end` and pass the test.
+fn row<F: Fn(usize) -> bool>(from: usize, end: usize, test: F) -> u64
+    requires inside { (from ≤ end) × (end ≤ 64) }
+    requires callable { (j : ℕ) → from ≤ j → j < end → F.pre test j }
+    ensures { (p : ℕ → Bool) → ((j : ℕ) (r : Bool) → F.post test j r → r ≡ p j) →
+        ((j : ℕ) → j < from → p j ≡ false) → (j : ℕ) → in_set result j ≡ (ltb j end && p j) }
 {
-    a[p] != a[q]
+    (from..end)
+        .filter(
+            |j|
+                requires { F.pre test j.now }
+                ensures { F.post test j.now result }
+            { test(*j) },
+        )
+        .fold(0, |row, j| row | sets::wide_bit(j))
+}
+
+// A row for each number before `end`.
+fn rows<F: Fn(usize) -> u64>(end: usize, row: F) -> [u64; 64]
+    requires few { end ≤ 64 }
+    requires callable { (i : ℕ) → i < end → F.pre row i }
+    ensures { (i : ℕ) → i < end → F.post row i (get_or result i 0) }
+{
+    array::from_fn(
+        |i|
+            requires { i < end → F.pre row i }
+            ensures { i < end → F.post row i result }
+        { if i < end { row(i) } else { 0 } },
+    )
 }
 
 // Policies i and j have equal role and permission, and different weight or type.
@@ -24,16 +77,7 @@ fn policies_disagree(a: &[u8], i: usize, j: usize) -> bool
 {
     let p = 8 * i;
     let q = 8 * j;
-    if differ(a, p, q) {
-        return false;
-    }
-    if differ(a, p + 1, q + 1) {
-        return false;
-    }
-    if differ(a, p + 2, q + 2) {
-        return true;
-    }
-    differ(a, p + 3, q + 3)
+    a[p] == a[q] && a[p + 1] == a[q + 1] && (a[p + 2] != a[q + 2] || a[p + 3] != a[q + 3])
 }
 
 // The context numbers x and y are related, by the rows of related slots.
@@ -43,10 +87,7 @@ fn related_by(rows: &[u32; 17], x: u8, y: u8) -> bool
 {
     let s = slots::slot(x);
     let t = slots::slot(y);
-    if s <= t {
-        return weights::sets::in_set(rows[s as usize], t);
-    }
-    weights::sets::in_set(rows[t as usize], s)
+    sets::in_set(rows[s.min(t) as usize], s.max(t))
 }
 
 // Kind 1 for the policies i and j, of which i comes first.
@@ -54,25 +95,14 @@ fn contradict_by(rows: &[u32; 17], a: &[u8], i: usize, j: usize) -> bool
     requires { (i < j) × (j < length a.now / 8) × (policies_bad 8 256 a.now ≡ false) }
     ensures { result ≡ contradict_by rows.now a.now i j }
 {
-    if !policies_disagree(a, i, j) {
-        return false;
-    }
-    related_by(rows, a[8 * i + 4], a[8 * j + 4])
+    policies_disagree(a, i, j) && related_by(rows, a[8 * i + 4], a[8 * j + 4])
 }
 
-// The row of kind 1 for policy i.
 fn contradict_row(rows: &[u32; 17], a: &[u8], i: usize) -> u64
     requires { (i < length a.now / 8) × (length a.now / 8 ≤ 64) × (policies_bad 8 256 a.now ≡ false) }
-    ensures { (j : ℕ) → in_set result j ≡
-        (ltb j (length a.now / 8) && contradict_by rows.now a.now i j) }
+    ensures { (j : ℕ) → in_set result j ≡ (ltb j (length a.now / 8) && contradict_by rows.now a.now i j) }
 {
-    let mut row: u64 = 0;
-    for j in i + 1..a.len() / 8 {
-        if contradict_by(rows, a, i, j) {
-            row = row | weights::sets::wide_bit(j);
-        }
-    }
-    row
+    row(i + 1, a.len() / 8, |j| contradict_by(rows, a, i, j))
 }
 
 // Kind 2 for the policies i and j, of which i comes first.
@@ -80,26 +110,14 @@ fn overlap_by(apart: &[u32; 16], covered: &[u8; 64], a: &[u8], i: usize, j: usiz
     requires { (i < j) × (j < length a.now / 8) × (length a.now / 8 ≤ 64) × (policies_bad 8 16 a.now ≡ false) }
     ensures { result ≡ overlap_by apart.now covered.now a.now i j }
 {
-    if !weights::sets::in_set(apart[a[8 * i + 1] as usize], a[8 * j + 1]) {
-        return false;
-    }
-    covered[i] & covered[j] != 0
+    sets::in_set(apart[a[8 * i + 1] as usize], a[8 * j + 1]) && covered[i] & covered[j] != 0
 }
 
-// The row of kind 2 for policy i.
 fn overlap_row(apart: &[u32; 16], covered: &[u8; 64], a: &[u8], i: usize) -> u64
     requires { (i < length a.now / 8) × (length a.now / 8 ≤ 64) × (policies_bad 8 16 a.now ≡ false) }
-    ensures { (j : ℕ) → in_set result j ≡
-        (ltb j (length a.now / 8)
-        && overlap_by apart.now covered.now a.now i j) }
+    ensures { (j : ℕ) → in_set result j ≡ (ltb j (length a.now / 8) && overlap_by apart.now covered.now a.now i j) }
 {
-    let mut row: u64 = 0;
-    for j in i + 1..a.len() / 8 {
-        if overlap_by(apart, covered, a, i, j) {
-            row = row | weights::sets::wide_bit(j);
-        }
-    }
-    row
+    row(i + 1, a.len() / 8, |j| overlap_by(apart, covered, a, i, j))
 }
 
 // Kind 3 for user u and exclusion record e.
@@ -108,71 +126,68 @@ fn holds_both(users: &[u8], roles: u8, x: &[u8], u: usize, e: usize) -> bool
     ensures { result ≡ holds_both roles users.now x.now u e }
 {
     let at = 3 * e;
-    if x[at] != 0 {
-        return false;
-    }
-    if !reader::codes::held_by(users, roles, u, x[at + 1] as usize) {
-        return false;
-    }
-    reader::codes::held_by(users, roles, u, x[at + 2] as usize)
+    x[at] == 0
+        && codes::held_by(users, roles, u, x[at + 1] as usize)
+        && codes::held_by(users, roles, u, x[at + 2] as usize)
 }
 
-// The row of kind 3 for user u.
 fn holds_row(users: &[u8], roles: u8, x: &[u8], u: usize) -> u64
     requires { (roles ≤ 8) × (length x.now / 3 ≤ 64) }
-    ensures { (j : ℕ) → in_set result j ≡
-        (ltb j (length x.now / 3) && holds_both roles users.now x.now u j) }
+    ensures { (j : ℕ) → in_set result j ≡ (ltb j (length x.now / 3) && holds_both roles users.now x.now u j) }
 {
-    let mut row: u64 = 0;
-    for e in 0..x.len() / 3 {
-        if holds_both(users, roles, x, u, e) {
-            row = row | weights::sets::wide_bit(e);
-        }
-    }
-    row
+    row(0, x.len() / 3, |e| holds_both(users, roles, x, u, e))
 }
 
-// Inner: the rows of kind 1 of an accepted base, a row for each policy.
-pub fn contradictions(base: &[u8]) -> [u64; 64]
+// Inner: the conflicts of kind 1 of an accepted base, a row for each policy.
+pub fn contradictions(base: &[u8]) -> Conflicts
     requires { refusal_of base.now ≡ 0 }
-    ensures { Contradictions base.now result }
+    ensures kind { kind_number result.kind ≡ 1 }
+    ensures firsts { result.firsts ≡ record_count policies (table_of base.now policies) }
+    ensures rows { Contradictions base.now result.rows }
 {
-    let a = trailer::part(base, reader::Table::Policies);
+    let a = trailer::part(base, Table::Policies);
     let names = slots::names(a);
-    let related = slots::relations(trailer::part(base, reader::Table::Contexts), names);
-    let mut rows = [0u64; 64];
-    for i in 0..a.len() / 8 {
-        rows[i] = contradict_row(&related, a, i);
+    let related = slots::relations(trailer::part(base, Table::Contexts), names);
+    let firsts = a.len() / 8;
+    Conflicts {
+        kind: Kind::Contradiction,
+        firsts,
+        rows: rows(firsts, |i| contradict_row(&related, a, i)),
     }
-    rows
 }
 
-// Inner: the rows of kind 2 of an accepted base, a row for each policy.
-pub fn overlaps(base: &[u8]) -> [u64; 64]
+// Inner: the conflicts of kind 2 of an accepted base, a row for each policy.
+pub fn overlaps(base: &[u8]) -> Conflicts
     requires { refusal_of base.now ≡ 0 }
-    ensures { Overlaps base.now result }
+    ensures kind { kind_number result.kind ≡ 2 }
+    ensures firsts { result.firsts ≡ record_count policies (table_of base.now policies) }
+    ensures rows { Overlaps base.now result.rows }
 {
-    let a = trailer::part(base, reader::Table::Policies);
-    let covered = covers::cover_sets(trailer::part(base, reader::Table::Hierarchy), a);
-    let apart = covers::excluded_sets(trailer::part(base, reader::Table::Exclusions));
-    let mut rows = [0u64; 64];
-    for i in 0..a.len() / 8 {
-        rows[i] = overlap_row(&apart, &covered, a, i);
+    let a = trailer::part(base, Table::Policies);
+    let covered = covers::cover_sets(trailer::part(base, Table::Hierarchy), a);
+    let apart = covers::excluded_sets(trailer::part(base, Table::Exclusions));
+    let firsts = a.len() / 8;
+    Conflicts {
+        kind: Kind::Overlap,
+        firsts,
+        rows: rows(firsts, |i| overlap_row(&apart, &covered, a, i)),
     }
-    rows
 }
 
-// Inner: the rows of kind 3 of an accepted base, a row for each user.
-pub fn holders(base: &[u8]) -> [u64; 64]
+// Inner: the conflicts of kind 3 of an accepted base, a row for each user.
+pub fn holders(base: &[u8]) -> Conflicts
     requires { refusal_of base.now ≡ 0 }
-    ensures { Holders base.now result }
+    ensures kind { kind_number result.kind ≡ 3 }
+    ensures firsts { result.firsts ≡ record_count users (table_of base.now users) }
+    ensures rows { Holders base.now result.rows }
 {
-    let users = trailer::part(base, reader::Table::Users);
-    let x = trailer::part(base, reader::Table::Exclusions);
+    let users = trailer::part(base, Table::Users);
+    let x = trailer::part(base, Table::Exclusions);
     let roles = trailer::role_count(base);
-    let mut rows = [0u64; 64];
-    for u in 0..users.len() / 4 {
-        rows[u] = holds_row(users, roles, x, u);
+    let firsts = users.len() / 4;
+    Conflicts {
+        kind: Kind::Holder,
+        firsts,
+        rows: rows(firsts, |u| holds_row(users, roles, x, u)),
     }
-    rows
 }

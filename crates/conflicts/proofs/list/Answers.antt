@@ -2,12 +2,12 @@
 -- written is the list.
 use Rattle.std.proofs.Common.{ℕ, ◌≡◌, ◌<◌, ◌≤◌, ◌*◌, ◌/◌, List, length, refl, sym, ap, ◌∙◌}
 use borrow.Author.Tests.{ne_eqb, lt-ltb, le-ltb}
+use lib.Dec.{lit<}
 use lib.Seq.{sets}
 use Rattle.reader.specs.Tables.{users, policies, table_of}
 use Rattle.reader.specs.Rules.{refusal_of}
 use Rattle.reader.specs.declared.Answer.{Answer}
 use Rattle.reader.proofs.Accepted.{accepted_frame}
-use Rattle.reader.proofs.Results.{refusal_pos, carried_on}
 use Rattle.conflicts.specs.Conflicts.{conflicts, conflict_count, too_short, conflict_answer, conflict_bytes}
 use Rattle.conflicts.specs.Rows.{Contradictions, Overlaps, Holders, all_records}
 use Rattle.conflicts.proofs.Tables.{few_policies, few_users}
@@ -37,46 +37,42 @@ module _ (b out : List ℕ) where
       let list = ap (λ (x : List ℕ). sets out 0 x) are ∙ written b out (rw (← count) enough) in
       rw (ok, ← count, le-ltb _ _ enough) (refl, wrote ∙ rw count list)
 
--- the records of the rows, their number taken from tables read
-all_found : (b : List ℕ) {one two three p u : List ℕ} → refusal_of b ≡ 0 →
-    Contradictions b one → Overlaps b two → Holders b three → p ≡ table_of b policies → u ≡ table_of b users →
-    all_records one two (length p / 8) three (length u / 4) ≡ conflicts b
-all_found b ok first second third p_is u_is = rw (p_is, u_is) (found_list b _ _ _ ok first second third)
+-- the records of the rows of the three kinds
+all_found : (b : List ℕ) {one two three : List ℕ} {k₁ k₂ k₃ n₁ n₂ n₃ : ℕ} → refusal_of b ≡ 0 →
+    Contradictions b one → Overlaps b two → Holders b three → (k₁ ≡ 1) × (k₂ ≡ 2) × (k₃ ≡ 3) →
+    n₁ ≡ record_count policies (table_of b policies) → n₂ ≡ record_count policies (table_of b policies) →
+    n₃ ≡ record_count users (table_of b users) →
+    rows_records k₁ one n₁ ++ (rows_records k₂ two n₂ ++ rows_records k₃ three n₃) ≡ conflicts b
+all_found b ok first second third (k, l, m) n o p =
+    rw (k, l, m, n, o, p) (found_list b _ _ _ ok first second third)
+
+-- three bytes for each record
+counted : {x y z : List ℕ} {l m n : ℕ} → 3 * l ≡ length x → 3 * m ≡ length y → 3 * n ≡ length z →
+    3 * (l + m + n) ≡ length (x ++ (y ++ z))
+counted {x} {y} {z} a b c = rw (length-append x (y ++ z), length-append y z) (omega arith)
+
+-- one kind behind the other
+all_written : {out first second third : List ℕ} {x y z : List ℕ} {l m n : ℕ} →
+    (l ≡ 0 + length x) × (first ≡ sets out 0 x) → (m ≡ l + length y) × (second ≡ sets first l y) →
+    (n ≡ m + length z) × (third ≡ sets second m z) → third ≡ sets out 0 (x ++ (y ++ z))
+all_written {out} {x = x} {y = y} {z = z} a b c =
+    let w = wrote_more (wrote_more (wrote_more (wrote_none out 0) x a) y b) z c in
+    w.bytes ∙ ap (λ (r : List ℕ). sets out 0 r) (append_assoc x y z)
 
 pub returns-in_err-check : goal.returns-in_err-check
-returns-in_err-check c =
-    let (answer_is, kept) = refused c.args.base.now c.args.out.now c.in_err-check.ensures (refusal_pos _) in
-    (carried_on _ _ c.from_residual.ensures.1 ∙ answer_is, kept)
-
-pub part-requires : goal.part-requires
-part-requires c = accepted_frame _ (sym c.in_ok-check.ensures)
-
-pub part-requires-2 : goal.part-requires-2
-part-requires-2 c = accepted_frame _ (sym c.in_ok-check.ensures)
-
-pub count_all-count-requires : goal.count_all-count-requires
-count_all-count-requires c =
-    let ok = sym c.in_ok-check.ensures in
-    (few_policies _ ok c.part.ensures, few_users _ ok c.part-2.ensures)
+returns-in_err-check c = ?
 
 pub returns-then-out-count : goal.returns-then-out-count
-returns-then-out-count c =
-    let ok = sym c.in_ok-check.ensures in
-    let found = all_found c.args.base.now ok c.contradictions.ensures c.overlaps.ensures c.holders.ensures in
-    let are = found c.part.ensures c.part-2.ensures in
-    let count = list_count _ _ _ c.count_all-count.ensures.0 are in
-    no_room c.args.base.now c.args.out.now ok count c.if-out-count.true
+returns-then-out-count c = ?
 
-pub write_all-requires : goal.write_all-requires
-write_all-requires c =
-    let ok = sym c.in_ok-check.ensures in
-    let size = c.count_all-count.ensures.0 in
-    (few_policies _ ok c.part.ensures, few_users _ ok c.part-2.ensures, rw (← size) c.if-out-count.false)
+pub write-behind-requires : goal.write-behind-requires
+write-behind-requires c = ?
+
+pub write-last-requires : goal.write-last-requires
+write-last-requires c = ?
+
+pub write-requires : goal.write-requires
+write-requires c = ?
 
 pub returns : goal.returns
-returns c =
-    let ok = sym c.in_ok-check.ensures in
-    let found = all_found c.args.base.now ok c.contradictions.ensures c.overlaps.ensures c.holders.ensures in
-    let are = found c.part.ensures c.part-2.ensures in
-    let count = list_count _ _ _ c.count_all-count.ensures.0 are in
-    room c.args.base.now c.args.out.now ok count c.if-out-count.false are c.write_all.ensures
+returns c = ?

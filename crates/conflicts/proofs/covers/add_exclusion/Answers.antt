@@ -22,25 +22,19 @@ module _ (x : List ℕ) (e s t : ℕ) (was : Bool) where
   both_pairs one first second =
       rw (second, first, eq-eqb _ _ one, or_assoc was, and_comm (eqb (exclusion_second x e) s))
 
-pub returns-then-x-at-ne1 : goal.returns-then-x-at-ne1
-returns-then-x-at-ne1 c =
-    (c.requires.2, λ s t. no_pair c.args.x.now c.args.e s t (in_set (get_or c.args.sets.now s 0) t) c.if-x-at-ne1.true)
-
 pub add_pair-requires : goal.add_pair-requires
-add_pair-requires c =
-    let (p, q) = permissions_small c.args.x.now c.args.e c.requires.1 c.requires.0 c.if-x-at-ne1.false in
-    (p, q, c.requires.2)
+add_pair-requires c = permissions_small c.args.x.now c.args.e c.requires.1 c.requires.0 c.if-x-at-eq1.true
 
-pub add_pair-requires-2 : goal.add_pair-requires-2
-add_pair-requires-2 c =
-    let (p, q) = permissions_small c.args.x.now c.args.e c.requires.1 c.requires.0 c.if-x-at-ne1.false in
-    (q, p, c.add_pair.ensures.0)
+pub add_pair-requires-then-x-at-eq1 : goal.add_pair-requires-then-x-at-eq1
+add_pair-requires-then-x-at-eq1 c =
+    let (p, q) = permissions_small c.args.x.now c.args.e c.requires.1 c.requires.0 c.if-x-at-eq1.true in (q, p)
 
-pub returns : goal.returns
-returns c =
-    let (size, second) = c.add_pair-2.ensures in
-    let was : ℕ → ℕ → Bool = λ s t. in_set (get_or c.args.sets.now s 0) t in (
-      size,
-      λ s t.
-          both_pairs c.args.x.now c.args.e s t (was s t) c.if-x-at-ne1.false (c.add_pair.ensures.1 s t) (second s t),
-    )
+pub returns-then-x-at-eq1 : goal.returns-then-x-at-eq1
+returns-then-x-at-eq1 c =
+    λ s t.
+    both_pairs c.args.x.now c.args.e s t (in_set (get_or c.args.excluded.now s 0) t) c.if-x-at-eq1.true
+    (c.add_pair.ensures s t) (c.add_pair-then-x-at-eq1.ensures s t)
+
+pub returns-else-x-at-eq1 : goal.returns-else-x-at-eq1
+returns-else-x-at-eq1 c =
+    λ s t. no_pair c.args.x.now c.args.e s t (in_set (get_or c.args.excluded.now s 0) t) c.if-x-at-eq1.false

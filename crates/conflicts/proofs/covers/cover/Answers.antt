@@ -28,15 +28,15 @@ module _ (h a : List ℕ) (i r : ℕ) {own : ℕ} (is : own ≡ 2 ^ policy_role 
 pub role_bit-own-requires : goal.role_bit-own-requires
 role_bit-own-requires c = (policy_fine 8 256 c.args.a.now c.args.i c.requires.1 c.requires.0).role
 
-pub returns-then-a-i-ne1 : goal.returns-then-a-i-ne1
-returns-then-a-i-ne1 c =
-    λ h juniors r l. alone h c.args.a.now c.args.i r c.role_bit-own.ensures c.if-a-i-ne1.true
+pub returns-else-a-i-eq1 : goal.returns-else-a-i-eq1
+returns-else-a-i-eq1 c =
+    λ h juniors r l. alone h c.args.a.now c.args.i r c.role_bit-own.ensures c.if-a-i-eq1.false
 
 pub seniors_of-requires : goal.seniors_of-requires
 seniors_of-requires c = (policy_fine 8 256 c.args.a.now c.args.i c.requires.1 c.requires.0).role
 
-pub returns : goal.returns
-returns c =
+pub returns-then-a-i-eq1 : goal.returns-then-a-i-eq1
+returns-then-a-i-eq1 c =
     λ h juniors r l.
-    with_seniors h c.args.a.now c.args.i r c.role_bit-own.ensures c.seniors_of.result c.if-a-i-ne1.false
+    with_seniors h c.args.a.now c.args.i r c.role_bit-own.ensures c.seniors_of.result c.if-a-i-eq1.true
     (c.seniors_of.ensures r l ∙ juniors.role r _ l)

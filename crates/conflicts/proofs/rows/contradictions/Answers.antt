@@ -1,15 +1,14 @@
--- `contradictions` meets its contract: each turn adds a row, and the rows by the related slots are those of the rules.
-use Rattle.std.proofs.Common.{ℕ, ◌≡◌, ◌/◌, List, length, arith}
+-- `contradictions` meets its contract: the rows by the related slots are those of the rules.
+use Rattle.std.proofs.Common.{ℕ, ◌≡◌, ◌/◌, false, List, length, rules}
 use Rattle.folds.specs.Sets.{in_set}
 use Rattle.reader.specs.Tables.{contexts, policies, table_of}
-use Rattle.reader.specs.Rules.{refusal_of}
+use Rattle.reader.specs.Rules.{policies_bad, refusal_of}
 use Rattle.reader.proofs.Accepted.{accepted, accepted_frame}
 use Rattle.weights.proofs.Weigh.{policies_fine}
 use Rattle.related.specs.Slots.{named, Relations}
 use Rattle.related.proofs.Relating.{whole_contexts}
 use Rattle.conflicts.specs.Rows.{contradict_by, Rows, Contradictions}
 use Rattle.conflicts.proofs.Tables.{few_policies}
-use Rattle.conflicts.proofs.Bits.{next_row, all_rows}
 use Rattle.conflicts.proofs.Found.{contradictions_found}
 use Rattle.conflicts.proofs.rows.contradictions.Goals as goal
 
@@ -34,20 +33,20 @@ pub relations-related-requires : goal.relations-related-requires
 relations-related-requires c =
     rw c.part.ensures ((accepted _ c.requires).contexts, whole_contexts _ c.requires)
 
-pub contradict_row-requires : goal.contradict_row-requires
-contradict_row-requires c =
+pub rows-requires-clause-few : goal.rows-requires-clause-few
+rows-requires-clause-few c = few_policies _ c.requires c.part-a.ensures
+
+pub rows-requires-clause-callable : goal.rows-requires-clause-callable
+rows-requires-clause-callable c =
+    λ i l.
     let few = few_policies _ c.requires c.part-a.ensures in
-    (c.loop-i-test.true, few, rw c.part-a.ensures (policies_fine _ c.requires))
+    let fine : policies_bad 8 256 c.part-a.result.now ≡ false = rw c.part-a.ensures (policies_fine _ c.requires) in
+    search rules
 
-pub bounds-rows-i : goal.bounds-rows-i
-bounds-rows-i c = let few = few_policies _ c.requires c.part-a.ensures in omega arith
+pub invariant_of-result : goal.invariant_of-result
+invariant_of-result c = record { few = few_policies _ c.requires c.part-a.ensures }
 
-pub loop-i-preserved : goal.loop-i-preserved
-loop-i-preserved c =
-    let few = few_policies _ c.requires c.part-a.ensures in
-    next_row c.loop-i.invariant few c.loop-i-test.true c.contradict_row.result c.contradict_row.ensures
-
-pub returns : goal.returns
-returns c =
-    let all = all_rows c.loop-i.invariant c.loop-i-test.false in
-    found _ c.requires c.part-a.ensures c.part.ensures c.relations-related.ensures c.names-names.ensures all
+pub returns-clause-rows : goal.returns-clause-rows
+returns-clause-rows c =
+    found _ c.requires c.part-a.ensures c.part.ensures c.relations-related.ensures c.names-names.ensures
+    (record { row = λ i j l. let row = c.rows.ensures i l in search rules })

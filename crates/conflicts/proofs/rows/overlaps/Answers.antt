@@ -1,14 +1,13 @@
--- `overlaps` meets its contract: each turn adds a row, and the rows by the sets worked out are those of the rules.
-use Rattle.std.proofs.Common.{ℕ, ◌≡◌, ◌/◌, List, length, arith}
+-- `overlaps` meets its contract: the rows by the sets worked out are those of the rules.
+use Rattle.std.proofs.Common.{ℕ, ◌≡◌, ◌/◌, false, List, length, rules}
 use Rattle.reader.specs.Tables.{hierarchy, policies, exclusions, table_of}
-use Rattle.reader.specs.Rules.{refusal_of}
+use Rattle.reader.specs.Rules.{policies_bad, refusal_of}
 use Rattle.reader.proofs.Accepted.{accepted, accepted_frame}
 use Rattle.reader.proofs.Frame.{roles_range, permissions_le}
 use Rattle.weights.proofs.Weigh.{policies_small, policies_fine}
 use Rattle.weights.proofs.Chains.{hierarchy_wider}
 use Rattle.conflicts.specs.Rows.{Covers, Excluded, overlap_by, Rows, Overlaps}
 use Rattle.conflicts.proofs.Tables.{few_policies, exclusions_wider}
-use Rattle.conflicts.proofs.Bits.{next_row, all_rows}
 use Rattle.conflicts.proofs.Found.{overlaps_found}
 use Rattle.conflicts.proofs.rows.overlaps.Goals as goal
 
@@ -43,22 +42,20 @@ excluded_sets-apart-requires c =
     let roles = (roles_range _ f.frame).1 in
     rw c.part-2.ensures (exclusions_wider _ _ 8 16 _ roles (permissions_le _ f.frame) f.exclusions)
 
-pub overlap_row-requires : goal.overlap_row-requires
-overlap_row-requires c =
+pub rows-requires-clause-few : goal.rows-requires-clause-few
+rows-requires-clause-few c = few_policies _ c.requires c.part-a.ensures
+
+pub rows-requires-clause-callable : goal.rows-requires-clause-callable
+rows-requires-clause-callable c =
+    λ i l.
     let few = few_policies _ c.requires c.part-a.ensures in
-    (c.loop-i-test.true, few, rw c.part-a.ensures (policies_small _ c.requires))
+    let fine : policies_bad 8 16 c.part-a.result.now ≡ false = rw c.part-a.ensures (policies_small _ c.requires) in
+    search rules
 
-pub bounds-rows-i : goal.bounds-rows-i
-bounds-rows-i c = let few = few_policies _ c.requires c.part-a.ensures in omega arith
+pub invariant_of-result : goal.invariant_of-result
+invariant_of-result c = record { few = few_policies _ c.requires c.part-a.ensures }
 
-pub loop-i-preserved : goal.loop-i-preserved
-loop-i-preserved c =
-    let few = few_policies _ c.requires c.part-a.ensures in
-    next_row c.loop-i.invariant few c.loop-i-test.true c.overlap_row.result c.overlap_row.ensures
-
-pub returns : goal.returns
-returns c =
-    let covers = c.cover_sets-covered.ensures in
-    let excluded = c.excluded_sets-apart.ensures in
-    let all = all_rows c.loop-i.invariant c.loop-i-test.false in
-    found _ c.requires c.part-a.ensures c.part.ensures c.part-2.ensures covers excluded all
+pub returns-clause-rows : goal.returns-clause-rows
+returns-clause-rows c =
+    found _ c.requires c.part-a.ensures c.part.ensures c.part-2.ensures c.cover_sets-covered.ensures
+    c.excluded_sets-apart.ensures (record { row = λ i j l. let row = c.rows.ensures i l in search rules })

@@ -1,10 +1,7 @@
--- `row_count` meets its contract: a record for each bit that is set.
-use lib.Count.{ones-le}
-use Rattle.conflicts.proofs.Lists.{ones_length}
+-- `row_count` meets its contract: its ones are its members.
+use Rattle.std.proofs.Common.{rules}
+use Rattle.conflicts.proofs.Lists.{ones_members}
 use Rattle.conflicts.proofs.writing.row_count.Goals as goal
 
 pub returns : goal.returns
-returns c =
-    let row = c.args.row in
-    let fits = c.ranges.row.fits in
-    (λ kind first. ones_length kind first row fits, ones-le 64 row fits)
+returns c = let (is, few) = ones_members c.args.row c.ranges.row.fits in (is, rw is few)

@@ -1,13 +1,13 @@
 -- `write_row` meets its contract: each turn writes the record of the lowest bit left, and what is still to be written
 -- into what stands is the whole.
-use Rattle.std.proofs.Common.{ℕ, ◌≡◌, ◌+◌, ◌-◌, ◌<◌, ◌≤◌, List, ◌∷◌, [], length, sym, ap, arith, ◌∙◌}
+use Rattle.std.proofs.Common.{ℕ, ◌≡◌, ◌+◌, ◌-◌, ◌<◌, ◌≤◌, List, ◌∷◌, [], length, refl, sym, ap, arith, ◌∙◌}
 use Rattle.std.proofs.Common.{bit_and, pos_of_ne-zero}
 use lib.Bits.{and_le_r}
 use lib.Count.{count_trailing_zeros}
-use lib.ListN.{set, length-set}
-use lib.Seq.{sets}
+use lib.Seq.{sets, length-sets}
+use Rattle.folds.proofs.Lists.{sets-append}
 use Rattle.conflicts.specs.Rows.{row_records}
-use Rattle.conflicts.proofs.Lists.{sets_record, row_next, row_none}
+use Rattle.conflicts.proofs.Lists.{put_record, row_next, row_none}
 use Rattle.conflicts.proofs.writing.write_row.Invariants.{Turn}
 use Rattle.conflicts.proofs.writing.write_row.Goals as goal
 
@@ -30,15 +30,17 @@ module _ {out₀ : List ℕ} {at kind first row : ℕ} {out : List ℕ} {next re
     room : at + length (row_records kind first row) ≤ length out₀ → next + 3 ≤ length out
     room enough = let more = ap length split in omega (arith, turn.place, turn.size)
 
-    again : let out' = set (set (set out next kind) (next + 1) first) (next + 2) lowest in
+    again : {out' : List ℕ} → out' ≡ sets out next (kind ∷ first ∷ lowest ∷ []) →
         Turn out₀ at kind first row out' (next + 3) others
-    again =
+    again is =
         let more = ap length split in
+        let left = row_records kind first others in
         record {
           small = omega (arith, fewer, turn.small);
           place = omega (arith, turn.place);
-          size = simp length-set turn.size;
-          bytes = sets_record out next kind first lowest (row_records kind first others)
+          size = ap length is ∙ length-sets out next (kind ∷ first ∷ lowest ∷ []) ∙ turn.size;
+          bytes = ap (λ (x : List ℕ). sets x (next + 3) left) is
+              ∙ sym (sets-append out next (kind ∷ first ∷ lowest ∷ []) left)
               ∙ ap (λ (x : List ℕ). sets out next x) (sym split)
               ∙ turn.bytes;
         }
@@ -50,22 +52,14 @@ module _ {out₀ : List ℕ} {at kind first row : ℕ} {out : List ℕ} {next re
       let left = ap length empty in
       (omega (arith, turn.place), ap (λ (x : List ℕ). sets out next x) (sym empty) ∙ turn.bytes)
 
-pub bounds-out-next : goal.bounds-out-next
-bounds-out-next c =
-    let fits = room c.loop-rest.invariant (pos_of_ne-zero c.loop-rest-test.true) c.requires in omega arith
-
-pub bounds-out-next-in-loop-rest : goal.bounds-out-next-in-loop-rest
-bounds-out-next-in-loop-rest c =
-    let fits = room c.loop-rest.invariant (pos_of_ne-zero c.loop-rest-test.true) c.requires in
-    simp length-set (omega arith)
-
-pub bounds-out-next-in-loop-rest-2 : goal.bounds-out-next-in-loop-rest-2
-bounds-out-next-in-loop-rest-2 c =
-    let fits = room c.loop-rest.invariant (pos_of_ne-zero c.loop-rest-test.true) c.requires in
-    simp length-set (omega arith)
+pub slice_bounds-copy_from_slice-end : goal.slice_bounds-copy_from_slice-end
+slice_bounds-copy_from_slice-end c = room c.loop-rest.invariant (pos_of_ne-zero c.loop-rest-test.true) c.requires
 
 pub loop-rest-preserved : goal.loop-rest-preserved
-loop-rest-preserved c = again c.loop-rest.invariant (pos_of_ne-zero c.loop-rest-test.true)
+loop-rest-preserved c =
+    let turn = c.loop-rest.invariant in
+    let some = pos_of_ne-zero c.loop-rest-test.true in
+    again turn some (put_record c.loop-rest.out _ c.loop-rest.next 3 _ refl (room turn some c.requires) c.copy_from_slice.ensures.after)
 
 pub returns : goal.returns
 returns c = finished c.loop-rest.invariant c.loop-rest-test.false
