@@ -12,7 +12,7 @@ use lib.Bits.{bit_and}
 use lib.Count.{ones, count_trailing_zeros}
 use lib.Dec.{ltb, eqb}
 use lib.ListN.{length, get_or, take, drop, length-append}
-use lib.Seq.{sets, sets-eq, length-sets}
+use lib.Seq.{sets, sets-eq}
 use Rattle.std.specs.List.{sum_by}
 use Rattle.std.proofs.lemmas.List.Edits.{paste_all}
 use Rattle.std.proofs.lemmas.List.Sums.{sum_by_more}
@@ -37,7 +37,7 @@ put_record out now at n xs size room is =
     put_mid-paste at (at + n - at) out now xs n is (omega arith) size
     ∙ paste_all out at xs n size
     ∙ rw size
-      (sym (sets-eq xs out at (rw (← size) room) ∙ append_assoc (take at out) xs (drop (at + length xs) out)))
+    (sym (sets-eq xs out at (rw (← size) room) ∙ append_assoc (take at out) xs (drop (at + length xs) out)))
 
 -- `now` is `out` with `xs` written over it from `at` on, and `next` is the place behind them
 pub record Wrote (out : List ℕ) (at : ℕ) (xs now : List ℕ) (next : ℕ) : Type 0 where
@@ -48,9 +48,6 @@ pub wrote_none : (out : List ℕ) (at : ℕ) → Wrote out at [] out at
 wrote_none out at = record { place = sym (add-zero at); bytes = refl }
 
 module _ {out xs now : List ℕ} {at next : ℕ} (w : Wrote out at xs now next) where
-  pub same_size : length now ≡ length out
-  same_size = ap length w.bytes ∙ length-sets out at xs
-
   -- and then `ys` behind them
   pub wrote_more : (ys : List ℕ) {now' : List ℕ} {next' : ℕ} →
       (next' ≡ next + length ys) × (now' ≡ sets now next ys) → Wrote out at (xs ++ ys) now' next'

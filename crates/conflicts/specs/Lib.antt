@@ -1,3 +1,4 @@
 pub mod Conflicts
 pub mod Rows
 pub mod Kinds
+pub mod Records

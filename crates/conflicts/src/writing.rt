@@ -1,10 +1,10 @@
 // The rows of bits as records of 3 bytes: kind, first, second.
-ghost use Rattle.std.specs.Prelude.{◌≡◌, ℕ, ◌+◌, ◌*◌, ◌≤◌, length};
+ghost use Rattle.std.specs.Prelude.{◌≡◌, ◌+◌, ◌*◌, ◌≤◌, length};
 ghost use Rattle.std.proofs.lemmas.List.Edits.{sets};
 ghost use Rattle.folds.specs.Below.{count_below};
 ghost use Rattle.folds.specs.Sets.{in_set};
-ghost use Rattle.conflicts.specs.Kinds.{kind_number};
-ghost use Rattle.conflicts.specs.Rows.{row_records, rows_records};
+ghost use Rattle.conflicts.specs.Records.{records_of};
+ghost use Rattle.conflicts.specs.Rows.{row_records};
 
 use crate::rows::Conflicts;
 
@@ -36,20 +36,22 @@ fn write_row(out: &mut [u8], at: usize, kind: u8, first: u8, row: u64) -> usize
 impl Conflicts {
     // Inner: how many there are.
     pub fn count(&self) -> u32
-        ensures { ((kind : ℕ) → 3 * result ≡ length (rows_records kind self.now.rows self.now.firsts)) × (result ≤ 4096) }
+        ensures { (3 * result ≡ length (records_of self.now)) × (result ≤ 4096) }
     {
-        self.rows[..self.firsts].iter().map(|row| row_count(*row)).sum()
+        self.rows[..self.firsts]
+            .iter()
+            .map(|row| row_count(*row))
+            .sum()
     }
 
     // Inner: writes their records from place at on; the place behind them.
     pub fn write(&self, out: &mut [u8], at: usize) -> usize
-        requires { at + length (rows_records (kind_number self.now.kind) self.now.rows self.now.firsts) ≤ length out.old }
-        ensures { (result ≡ at + length (rows_records (kind_number self.now.kind) self.now.rows self.now.firsts))
-            × (out.new ≡ sets out.old at (rows_records (kind_number self.now.kind) self.now.rows self.now.firsts)) }
+        requires { at + length (records_of self.now) ≤ length out.old }
+        ensures { (result ≡ at + length (records_of self.now)) × (out.new ≡ sets out.old at (records_of self.now)) }
     {
         let kind = self.kind.number();
         let mut next = at;
-        // A row's number is written too, and each row is written behind those before it.
+        // A row's number is written too, and each row behind those before it: no chain is plainer.
         for i in 0..self.firsts {
             next = write_row(out, next, kind, i as u8, self.rows[i]);
         }

@@ -1,17 +1,16 @@
 -- `list` meets its contract: the records of the rows are the conflict list, so their number is the list's, and what is
 -- written is the list.
-use Rattle.std.proofs.Common.{ℕ, ◌≡◌, ◌<◌, ◌≤◌, ◌*◌, ◌/◌, List, length, refl, sym, ap, ◌∙◌}
+use Rattle.std.proofs.Common.{ℕ, ◌≡◌, ◌<◌, ◌≤◌, ◌+◌, ◌*◌, List, ◌++◌, length, refl, sym, ap, ◌∙◌, arith}
+use Rattle.std.proofs.Common.{append_assoc, length-append}
 use borrow.Author.Tests.{ne_eqb, lt-ltb, le-ltb}
-use lib.Dec.{lit<}
 use lib.Seq.{sets}
-use Rattle.reader.specs.Tables.{users, policies, table_of}
+use Rattle.reader.specs.Tables.{users, policies, table_of, record_count}
 use Rattle.reader.specs.Rules.{refusal_of}
 use Rattle.reader.specs.declared.Answer.{Answer}
-use Rattle.reader.proofs.Accepted.{accepted_frame}
+use Rattle.reader.proofs.Results.{refusal_pos, carried_on}
 use Rattle.conflicts.specs.Conflicts.{conflicts, conflict_count, too_short, conflict_answer, conflict_bytes}
-use Rattle.conflicts.specs.Rows.{Contradictions, Overlaps, Holders, all_records}
-use Rattle.conflicts.proofs.Tables.{few_policies, few_users}
-use Rattle.conflicts.proofs.Lists.{found_list, list_count, written}
+use Rattle.conflicts.specs.Rows.{Contradictions, Overlaps, Holders, rows_records}
+use Rattle.conflicts.proofs.Lists.{found_list, list_count, written, wrote_none, wrote_more}
 use Rattle.conflicts.proofs.list.Goals as goal
 
 -- the contract, of plain values
@@ -47,32 +46,44 @@ all_found b ok first second third (k, l, m) n o p =
     rw (k, l, m, n, o, p) (found_list b _ _ _ ok first second third)
 
 -- three bytes for each record
-counted : {x y z : List ℕ} {l m n : ℕ} → 3 * l ≡ length x → 3 * m ≡ length y → 3 * n ≡ length z →
+counted : (x y z : List ℕ) (l m n : ℕ) → 3 * l ≡ length x → 3 * m ≡ length y → 3 * n ≡ length z →
     3 * (l + m + n) ≡ length (x ++ (y ++ z))
-counted {x} {y} {z} a b c = rw (length-append x (y ++ z), length-append y z) (omega arith)
+counted x y z l m n a b c = rw (length-append x (y ++ z), length-append y z) (omega arith)
 
 -- one kind behind the other
-all_written : {out first second third : List ℕ} {x y z : List ℕ} {l m n : ℕ} →
+all_written : (out x y z : List ℕ) {first second third : List ℕ} {l m n : ℕ} →
     (l ≡ 0 + length x) × (first ≡ sets out 0 x) → (m ≡ l + length y) × (second ≡ sets first l y) →
     (n ≡ m + length z) × (third ≡ sets second m z) → third ≡ sets out 0 (x ++ (y ++ z))
-all_written {out} {x = x} {y = y} {z = z} a b c =
-    let w = wrote_more (wrote_more (wrote_more (wrote_none out 0) x a) y b) z c in
-    w.bytes ∙ ap (λ (r : List ℕ). sets out 0 r) (append_assoc x y z)
+all_written out x y z a b c =
+    let all = wrote_more (wrote_more (wrote_more (wrote_none out 0) x a) y b) z c in
+    all.bytes ∙ ap (λ (r : List ℕ). sets out 0 r) (append_assoc x y z)
 
 pub returns-in_err-check : goal.returns-in_err-check
-returns-in_err-check c = ?
+returns-in_err-check c =
+    let (answer_is, kept) = refused c.args.base.now c.args.out.now c.in_err-check.ensures (refusal_pos _) in
+    (carried_on _ _ c.from_residual.ensures.1 ∙ answer_is, kept)
 
 pub returns-then-out-count : goal.returns-then-out-count
-returns-then-out-count c = ?
-
-pub write-behind-requires : goal.write-behind-requires
-write-behind-requires c = ?
-
-pub write-last-requires : goal.write-last-requires
-write-last-requires c = ?
-
-pub write-requires : goal.write-requires
-write-requires c = ?
+returns-then-out-count c =
+    let ok = sym c.in_ok-check.ensures in
+    let one = c.contradictions-one.ensures in
+    let two = c.overlaps-two.ensures in
+    let three = c.holders-three.ensures in
+    let are =
+    all_found c.args.base.now ok one.rows two.rows three.rows (one.kind, two.kind, three.kind)
+    one.firsts two.firsts three.firsts in
+    let size = counted _ _ _ _ _ _ c.count.ensures.0 c.count-2.ensures.0 c.count-3.ensures.0 in
+    no_room c.args.base.now c.args.out.now ok (list_count _ _ _ size are) c.if-out-count.true
 
 pub returns : goal.returns
-returns c = ?
+returns c =
+    let ok = sym c.in_ok-check.ensures in
+    let one = c.contradictions-one.ensures in
+    let two = c.overlaps-two.ensures in
+    let three = c.holders-three.ensures in
+    let are =
+    all_found c.args.base.now ok one.rows two.rows three.rows (one.kind, two.kind, three.kind)
+    one.firsts two.firsts three.firsts in
+    let size = counted _ _ _ _ _ _ c.count.ensures.0 c.count-2.ensures.0 c.count-3.ensures.0 in
+    room c.args.base.now c.args.out.now ok (list_count _ _ _ size are) c.if-out-count.false are
+    (all_written _ _ _ _ c.write-behind.ensures c.write-last.ensures c.write.ensures)

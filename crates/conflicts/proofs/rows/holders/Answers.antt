@@ -30,7 +30,7 @@ pub rows-requires-clause-callable : goal.rows-requires-clause-callable
 rows-requires-clause-callable c =
     λ u l.
     let roles : c.role_count-roles.result ≤ 8 =
-        rw c.role_count-roles.ensures (roles_range _ (accepted_frame _ c.requires)).1 in
+    rw c.role_count-roles.ensures (roles_range _ (accepted_frame _ c.requires)).1 in
     let few = few_exclusions _ c.requires c.part-x.ensures in
     search rules
 

@@ -12,7 +12,7 @@ fold-requires-clause-can g c =
       tt,
       tt,
       serves_from_Range (λ x q k. search rules)
-      (λ j a b. let may = c.requires.callable j (omega arith) (omega arith) in search rules),
+          (λ j a b. let may = c.requires.callable j (omega arith) (omega arith) in search rules),
     )
 
 pub returns : goal.returns

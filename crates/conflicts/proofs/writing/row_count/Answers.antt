@@ -1,5 +1,4 @@
 -- `row_count` meets its contract: its ones are its members.
-use Rattle.std.proofs.Common.{rules}
 use Rattle.conflicts.proofs.Lists.{ones_members}
 use Rattle.conflicts.proofs.writing.row_count.Goals as goal
 

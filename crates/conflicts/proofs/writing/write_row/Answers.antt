@@ -59,7 +59,8 @@ pub loop-rest-preserved : goal.loop-rest-preserved
 loop-rest-preserved c =
     let turn = c.loop-rest.invariant in
     let some = pos_of_ne-zero c.loop-rest-test.true in
-    again turn some (put_record c.loop-rest.out _ c.loop-rest.next 3 _ refl (room turn some c.requires) c.copy_from_slice.ensures.after)
+    let fits = room turn some c.requires in
+    again turn some (put_record c.loop-rest.out _ c.loop-rest.next 3 _ refl fits c.copy_from_slice.ensures.after)
 
 pub returns : goal.returns
 returns c = finished c.loop-rest.invariant c.loop-rest-test.false

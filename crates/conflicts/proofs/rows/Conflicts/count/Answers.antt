@@ -4,6 +4,7 @@ use Rattle.std.proofs.lemmas.List.{length-take-le}
 use Rattle.std.proofs.lemmas.Iterator.{YieldsList-from_slice, YieldsList-from_map}
 use Rattle.std.proofs.lemmas.Iterator.Adapters.{fits_from_length, at_most_from_yields_List}
 use Rattle.std.proofs.lemmas.Iterator.Consumers.{YieldsList-at, sum_by_from_yields_List}
+use Rattle.conflicts.specs.Kinds.{kind_number}
 use Rattle.conflicts.proofs.Lists.{members, rows_length, rows_bits}
 use Rattle.conflicts.proofs.rows.Conflicts.count.Goals as goal
 
@@ -22,6 +23,8 @@ returns c =
     let few = s.few in
     let rows = YieldsList-at c.map.ensures.source (YieldsList-from_slice _ c.iter.ensures.rest) in
     let sum =
-        sum_by_from_yields_List members (take s.firsts s.rows) _ _ c.sum.ensures.ran
-        (YieldsList-from_map _ members rows c.map.ensures.closure (λ x r q k. search rules)) in
-    (λ kind. rw sum (rows_length s.rows kind s.firsts (omega arith)), omega (arith, rows_bits s.rows s.firsts (omega arith)))
+    sum_by_from_yields_List members (take s.firsts s.rows) _ _ c.sum.ensures.ran
+    (YieldsList-from_map _ members rows c.map.ensures.closure (λ x r q k. search rules)) in
+    let size = rows_length s.rows (kind_number s.kind) s.firsts (omega arith) in
+    let bits = rows_bits s.rows s.firsts (omega arith) in
+    (rw sum size, omega arith)
