@@ -1,5 +1,5 @@
 -- Tables of a value for each multiset of roles below d: the sum of the roles' weights, and their set.
-use Rattle.std.specs.Prelude.{ℕ, ◌+◌, ◌^◌, ◌<◌, ◌≤◌, cond, ◌≡◌, List, [], ◌∷◌, eqb, ltb, length, get_or}
+use Rattle.std.specs.Prelude.{ℕ, suc, ◌+◌, ◌^◌, ◌<◌, ◌≤◌, cond, ◌≡◌, List, [], ◌∷◌, eqb, ltb, length, get_or}
 use Rattle.std.specs.Int.Bits.{bit_or}
 use Rattle.folds.specs.Sets.{set_below}
 use Rattle.multisets.specs.Ranks.{starts, first, total}
@@ -41,3 +41,10 @@ pub record Written (g : ℕ → ℕ) (to count : ℕ) (t t' : List ℕ) : Type 0
   pub size : length t' ≡ length t
   pub here : (j : ℕ) → j < count → get_or t' (to + j) 0 ≡ g j
   pub before : (i : ℕ) → i < to → get_or t' i 0 ≡ get_or t i 0
+
+-- a step makes of the values of n roles those of n + 1 below `end`: of multiset j, with role r more, the largest; by
+-- what a step asks and gives
+pub record Steps (end n : ℕ) (value : ℕ → ℕ → ℕ) (may : ℕ → ℕ → Type 0) (gives : ℕ → ℕ → ℕ → Type 0) : Type 0 where
+  pub asks : (r j : ℕ) → r < end → j < starts n (suc r) → may (value n j) r
+  pub makes : (r j y : ℕ) → r < end → j < starts n (suc r) → gives (value n j) r y →
+      y ≡ value (suc n) (starts (suc n) r + j)

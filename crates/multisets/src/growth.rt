@@ -5,10 +5,9 @@ ghost use Rattle.multisets.specs.Ends.{NextTable};
 ghost use Rattle.multisets.specs.Values.{Written};
 ghost use Rattle.multisets.specs.Levels.{Fixed, Kept, Grown};
 
-use std::array;
-
 use crate::ends;
 use crate::ranks::{first_in, start_in};
+use std::array;
 
 // How far multisets of n + 1 roles whose largest is r lie behind with each role more, as far as r and the role tell.
 fn fixed_steps(n: usize, r: usize) -> [u16; 8]
@@ -19,7 +18,8 @@ fn fixed_steps(n: usize, r: usize) -> [u16; 8]
     array::from_fn(|q| (if q < r { low } else { start_in(n + 2, q) }) as u16)
 }
 
-// 1 for a role below r, to which the rest without r adds, else 0.
+// 1 for a role below r, to which the rest without r adds, else 0. Kept out of line: taken in, the compiler makes a
+// branch of each number.
 #[inline(never)]
 fn kept_steps(r: usize) -> [u16; 8]
     ensures { Kept r result }

@@ -1,49 +1,70 @@
 -- The sum of no role is what is placed; a level's sums come from the level before.
-use Rattle.std.proofs.Common.{ℕ, suc, ◌+◌, ◌-◌, ◌≤◌, ◌<◌, List, ◌≡◌, sym, ap, ◌∙◌, length, get_or, arith}
+use Rattle.std.proofs.Common.{ℕ, suc, ◌+◌, ◌-◌, ◌*◌, ◌≤◌, ◌<◌, List, ◌≡◌, sym, length, get_or, arith, rules}
 use lib.ListN.{set}
-use native.Mathlib.Nat.{pos_of_ne-zero, add-zero}
+use native.Mathlib.Nat.{add-zero, lt_of_lt_of_le}
 use Rattle.multisets.specs.Ranks.{starts, first}
-use Rattle.multisets.specs.Values.{Held, sum_at}
-use Rattle.multisets.proofs.Blocks.{starts_empty, total_none}
-use Rattle.multisets.proofs.Places.{first_0, first_1, first_le}
+use Rattle.multisets.specs.Values.{Held, Light, sum_at}
+use Rattle.multisets.proofs.Blocks.{starts_le, total_none, total_block, total_le}
+use Rattle.multisets.proofs.Places.{first_1, first_le}
 use Rattle.multisets.proofs.Holding.{held_none}
 use Rattle.multisets.proofs.values.sum_level.Goals as goal
-
--- the sum of no role is what is placed before
-sum_none : (w : List ℕ) (placed : ℕ) → sum_at w placed 0 0 ≡ placed
-sum_none w placed = rw (total_none (λ r. get_or w r 0) 0) (add-zero placed)
 
 module _ {d end : ℕ} (w : List ℕ) (placed n : ℕ) (t : List ℕ) (held : Held d end (sum_at w placed) t (first d n)) where
   room : 0 < length t
   room = omega (arith, held.room, first_1 d, first_le d 1 7 (omega arith))
 
+  -- the sum of no role is what is placed before
   begun : n ≡ 0 → end ≤ d → Held d end (sum_at w placed) (set t 0 placed) (first d (suc n))
-  begun e low = rw e (held_none d end (sum_at w placed) t placed low held.room (sym (sum_none w placed)))
+  begun e low =
+      let none : sum_at w placed 0 0 ≡ placed = rw (total_none (λ r. get_or w r 0) 0) (add-zero placed) in
+      rw e (held_none d end (sum_at w placed) t placed low held.room (sym none))
 
-  -- it stands first
-  placed_is : 0 < n → get_or t 0 0 ≡ placed
-  placed_is some =
-      let z : first d 0 + 0 ≡ 0 = omega (arith, first_0 d) in
-      let one : 0 < starts 0 end = rw (starts_empty end) (omega arith) in
-      let low : first d 0 + 0 < first d n = omega (arith, z, first_1 d, first_le d 1 n some) in
-      ap (λ (i : ℕ). get_or t i 0) (sym z) ∙ held.each 0 0 (omega arith) one low ∙ sum_none w placed
+-- a role more, the largest
+module _ (n : ℕ) {end r j : ℕ} {w : List ℕ} (placed : ℕ) (light : Light w) (few : end ≤ 8) (role : r < end)
+    (some : j < starts n (suc r)) where
+  small : placed + suc n * 40 ≤ 255 → sum_at w placed n j + get_or w r 0 ≤ 255
+  small most =
+      let there : j < starts n end = lt_of_lt_of_le some (starts_le n (suc r) end role) in
+      let most_sum = total_le (λ k. get_or w k 0) 40 end few (λ k h. light.most k (omega arith)) n j there in
+      omega (arith, most_sum, light.most r (omega arith))
+
+  more : sum_at w placed n j + get_or w r 0 ≡ sum_at w placed (suc n) (starts (suc n) r + j)
+  more = omega (arith, total_block n r j (omega arith) some (λ k. get_or w k 0))
 
 pub bounds-t-0 : goal.bounds-t-0
-bounds-t-0 c = room c.args.w c.args.placed _ _ c.requires.5
+bounds-t-0 c = let some = room c.args.w c.args.placed _ _ c.requires.5 in search rules
 
 pub returns-then-n-eq0 : goal.returns-then-n-eq0
 returns-then-n-eq0 c = begun c.args.w c.args.placed _ _ c.requires.5 c.if-n-eq0.true c.requires.2
 
-pub add_level-requires : goal.add_level-requires
-add_level-requires c =
+pub next_level-requires : goal.next_level-requires
+next_level-requires c =
     let p = c.requires in
-    let some = pos_of_ne-zero c.if-n-eq0.false in
-    let is = placed_is c.args.w c.args.placed _ _ p.5 some in
-    let up : suc (c.args.n - 1) ≡ c.args.n = omega arith in
-    (omega (arith, p.0), p.1, p.2, p.3, rw (is, up) p.4, rw (is, up) p.5)
+    let placed = c.args.placed in
+    let n : ℕ = c.args.n - 1 in
+    let up : suc n ≡ c.args.n = omega (arith, c.if-n-eq0.false) in
+    let few : c.args.end ≤ 8 = omega arith in (
+      omega (arith, p.0),
+      p.1,
+      p.2,
+      (
+        sum_at c.args.w placed,
+        rw up p.5,
+        record {
+          asks = λ r j role some. let s = small n placed p.3 few role some (rw up p.4) in search rules;
+          makes = λ r j y role some called. let e = more n placed p.3 few role some in search rules;
+        },
+      ),
+    )
 
 pub returns : goal.returns
 returns c =
-    let some = pos_of_ne-zero c.if-n-eq0.false in
-    let up : suc (c.args.n - 1) ≡ c.args.n = omega arith in
-    rw (placed_is c.args.w c.args.placed _ _ c.requires.5 some, up) at c.add_level.ensures
+    let p = c.requires in
+    let placed = c.args.placed in
+    let n : ℕ = c.args.n - 1 in
+    let up : suc n ≡ c.args.n = omega (arith, c.if-n-eq0.false) in
+    let few : c.args.end ≤ 8 = omega arith in
+    rw up at (c.next_level.ensures (sum_at c.args.w placed) (rw up p.5) (record {
+      asks = λ r j role some. let s = small n placed p.3 few role some (rw up p.4) in search rules;
+      makes = λ r j y role some called. let e = more n placed p.3 few role some in search rules;
+    }))
