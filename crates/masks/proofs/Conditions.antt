@@ -1,7 +1,7 @@
 -- A condition strikes its clause out of the masks of one attribute, and leaves the others.
 use Prim.Native.Nat.{ℕ, ◌+◌, ◌*◌, ◌<◌, ◌≤◌}
-use mathlib.Core.Bool.{Bool, true}
-use mathlib.Core.Path.{◌≡◌, refl, ◌∙◌}
+use mathlib.Core.Bool.{true}
+use mathlib.Core.Path.{◌≡◌, refl}
 use mathlib.Core.List.{List}
 use native.Mathlib.Numerals.{add-one}
 use native.Mathlib.Nat.{lt_of_lt_of_le}
@@ -12,7 +12,8 @@ use Rattle.folds.specs.Below.{all_below}
 use Rattle.reader.specs.Tables.{clauses, record_count}
 use Rattle.reader.specs.Fields.{clause_length, condition_attribute, condition_operator, condition_value}
 use Rattle.reader.proofs.Accepted.{ConditionFine, clause_fine, record_within}
-use Rattle.masks.specs.Clauses.{Checked, stands_to, lacks, met_at, met_below, met, Struck, StruckAll, Room}
+use Rattle.masks.specs.declared.asked.Asked.{Asked}
+use Rattle.masks.specs.Clauses.{Checked, stands_to, lacks, met_at, met_below, met, Struck, StruckAll}
 use Rattle.masks.proofs.Striking.{struck_none, struck_both, struck_as}
 
 -- what a table K that passed the check says of its condition j of clause i
@@ -65,45 +66,49 @@ module _ (k : List ℕ) (i j : ℕ) where
         → Struck m (met_at k i j a) others was masks
     hit a l q h = struck_as h (λ x m. on a l q x)
 
-    module _ {count : ℕ} {e s n r : List ℕ} where
-      pub on_entries : {e' : List ℕ} → condition_attribute k i j ≡ 0
-          → Struck 7 (stands_to (condition_operator k i j) (condition_value k i j)) others e e'
-          → StruckAll count (met_at k i j) others e s n r e' s n r
-      on_entries q h = record {
+    module _ {count : ℕ} {was now : Asked} {sums : List ℕ} where
+      pub on_entries : condition_attribute k i j ≡ 0
+          → Struck 7 (stands_to (condition_operator k i j) (condition_value k i j)) others was.entries now.entries
+          → now.numbers ≡ was.numbers → now.roles ≡ was.roles
+          → StruckAll count (met_at k i j) others was sums now sums
+      on_entries q h n r = record {
         entries = hit 0 (omega arith) q h;
         sums = kept 1 (λ d. omega arith);
-        numbers = kept 2 (λ d. omega arith);
-        roles = kept 3 (λ d. omega arith);
+        numbers = rw n (kept 2 (λ d. omega arith));
+        roles = rw r (kept 3 (λ d. omega arith));
       }
 
-      pub on_sums : {s' : List ℕ} → condition_attribute k i j ≡ 1
-          → Struck count (stands_to (condition_operator k i j) (condition_value k i j)) others s s'
-          → StruckAll count (met_at k i j) others e s n r e s' n r
-      on_sums q h = record {
-        entries = kept 0 (λ d. omega arith);
-        sums = hit 1 (omega arith) q h;
-        numbers = kept 2 (λ d. omega arith);
-        roles = kept 3 (λ d. omega arith);
-      }
-
-      pub on_numbers : {n' : List ℕ} → condition_attribute k i j ≡ 2
-          → Struck 9 (stands_to (condition_operator k i j) (condition_value k i j)) others n n'
-          → StruckAll count (met_at k i j) others e s n r e s n' r
-      on_numbers q h = record {
-        entries = kept 0 (λ d. omega arith);
+      pub on_numbers : condition_attribute k i j ≡ 2
+          → Struck 9 (stands_to (condition_operator k i j) (condition_value k i j)) others was.numbers now.numbers
+          → now.entries ≡ was.entries → now.roles ≡ was.roles
+          → StruckAll count (met_at k i j) others was sums now sums
+      on_numbers q h e r = record {
+        entries = rw e (kept 0 (λ d. omega arith));
         sums = kept 1 (λ d. omega arith);
         numbers = hit 2 (omega arith) q h;
-        roles = kept 3 (λ d. omega arith);
+        roles = rw r (kept 3 (λ d. omega arith));
       }
 
-      pub on_set : {r' : List ℕ} → condition_attribute k i j ≡ 3 → Struck 8 (lacks (condition_value k i j)) others r r'
-          → StruckAll count (met_at k i j) others e s n r e s n r'
-      on_set q h = record {
-        entries = kept 0 (λ d. omega arith);
+      pub on_set : condition_attribute k i j ≡ 3
+          → Struck 8 (lacks (condition_value k i j)) others was.roles now.roles
+          → now.entries ≡ was.entries → now.numbers ≡ was.numbers
+          → StruckAll count (met_at k i j) others was sums now sums
+      on_set q h e n = record {
+        entries = rw e (kept 0 (λ d. omega arith));
         sums = kept 1 (λ d. omega arith);
-        numbers = kept 2 (λ d. omega arith);
+        numbers = rw n (kept 2 (λ d. omega arith));
         roles = struck_as h (λ x m. on_roles q x);
       }
+
+    pub on_sums : {count : ℕ} {asked : Asked} {sums s : List ℕ} → condition_attribute k i j ≡ 1
+        → Struck count (stands_to (condition_operator k i j) (condition_value k i j)) others sums s
+        → StruckAll count (met_at k i j) others asked sums asked s
+    on_sums q h = record {
+      entries = kept 0 (λ d. omega arith);
+      sums = hit 1 (omega arith) q h;
+      numbers = kept 2 (λ d. omega arith);
+      roles = kept 3 (λ d. omega arith);
+    }
 
 -- one condition further
 further : (k : List ℕ) (i j a : ℕ) {m others : ℕ} {was then now : List ℕ} → Struck m (met_below k i j a) others was then
@@ -111,10 +116,10 @@ further : (k : List ℕ) (i j a : ℕ) {m others : ℕ} {was then now : List ℕ
 unfolding met_below all_below
 further k i j a h t = struck_as (struck_both h t) (λ x l. rw add-one)
 
-pub all_next : (k : List ℕ) (i j : ℕ) {count others : ℕ} {e₀ s₀ n₀ r₀ e s n r e' s' n' r' : List ℕ}
-    → StruckAll count (met_below k i j) others e₀ s₀ n₀ r₀ e s n r
-    → StruckAll count (met_at k i j) others e s n r e' s' n' r'
-    → StruckAll count (met_below k i (j + 1)) others e₀ s₀ n₀ r₀ e' s' n' r'
+pub all_next : (k : List ℕ) (i j : ℕ) {count others : ℕ} {first was asked : Asked} {s₀ s s' : List ℕ}
+    → StruckAll count (met_below k i j) others first s₀ was s
+    → StruckAll count (met_at k i j) others was s asked s'
+    → StruckAll count (met_below k i (j + 1)) others first s₀ asked s'
 all_next k i j h t = record {
   entries = further k i j 0 h.entries t.entries;
   sums = further k i j 1 h.sums t.sums;
@@ -123,8 +128,8 @@ all_next k i j h t = record {
 }
 
 -- at first nothing is struck out
-pub all_none : (k : List ℕ) (i : ℕ) {count others : ℕ} {e s n r : List ℕ}
-    → StruckAll count (met_below k i 0) others e s n r e s n r
+pub all_none : (k : List ℕ) (i : ℕ) {count others : ℕ} {asked : Asked} {s : List ℕ}
+    → StruckAll count (met_below k i 0) others asked s asked s
 unfolding met_below all_below
 all_none k i = record {
   entries = struck_none (λ x l. refl);
@@ -133,20 +138,8 @@ all_none k i = record {
   roles = struck_none (λ x l. refl);
 }
 
--- the masks keep their numbers
-pub room_after : {count others : ℕ} {stays : ℕ → ℕ → Bool} {e₀ s₀ n₀ r₀ e s n r : List ℕ}
-    → Room count e₀ s₀ n₀ r₀ → StruckAll count stays others e₀ s₀ n₀ r₀ e s n r → Room count e s n r
-room_after room h = record {
-  entries = h.entries.size ∙ room.entries;
-  sums = rw h.sums.size room.sums;
-  few = room.few;
-  numbers = h.numbers.size ∙ room.numbers;
-  roles = h.roles.size ∙ room.roles;
-}
-
 -- all conditions
-pub all_done : (k : List ℕ) (i j : ℕ) {count others : ℕ} {e₀ s₀ n₀ r₀ e s n r : List ℕ} → j ≡ clause_length k i
-    → StruckAll count (met_below k i j) others e₀ s₀ n₀ r₀ e s n r
-    → StruckAll count (met k i) others e₀ s₀ n₀ r₀ e s n r
+pub all_done : (k : List ℕ) (i j : ℕ) {count others : ℕ} {was asked : Asked} {s₀ s : List ℕ} → j ≡ clause_length k i
+    → StruckAll count (met_below k i j) others was s₀ asked s → StruckAll count (met k i) others was s₀ asked s
 unfolding met
 all_done k i j q h = rw q at h

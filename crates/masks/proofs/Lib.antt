@@ -1,7 +1,9 @@
 pub mod Apart
+pub mod Chains
 pub mod Conditions
 pub mod Made
 pub mod Narrowing
+pub mod Owning
 pub mod RowMasks
 pub mod SetMasks
 pub mod Striking

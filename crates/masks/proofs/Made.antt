@@ -1,12 +1,12 @@
 -- What the parts of the masks come to.
 use Prim.Native.Nat.{ℕ, ◌+◌, ◌-◌, ◌*◌, ◌^◌, ◌<◌, ◌≤◌}
 use mathlib.Core.Path.{◌≡◌, ◌∙◌}
-use mathlib.Core.List.{List}
+use mathlib.Core.List.{List, ◌++◌}
 use native.Mathlib.Nat.{lt_of_lt_of_le, mul-le-mul_right}
 use native.Mathlib.Omega.{arith}
 use lib.Bits.{bit_or, or_lt}
 use lib.Dec.{lit<}
-use lib.ListN.{length, get_or}
+use lib.ListN.{length, get_or, take, drop}
 use lib.Pow.{pow_mono}
 use Rattle.reader.specs.Tables.{clauses, role_count, permission_count, table_of}
 use Rattle.reader.specs.Rules.{refusal_of}
@@ -15,10 +15,15 @@ use Rattle.reader.proofs.Accepted.{accepted}
 use Rattle.decision.specs.Conditions.{role_num}
 use Rattle.masks.specs.declared.Placed.{Placed}
 use Rattle.masks.specs.declared.Weighed.{Weighed}
+use Rattle.masks.specs.declared.asked.Asked.{Asked}
 use Rattle.masks.specs.Clauses.{Checked, NarrowedAll}
 use Rattle.masks.specs.Sets.{SetsFor}
 use Rattle.masks.specs.Rows.{Joined, Rows}
 use Rattle.masks.specs.Masks.{Ready, Masks}
+use Rattle.std.proofs.lemmas.List.{length-take}
+use Rattle.masks.proofs.Chains.{before_end, length_end}
+use Rattle.masks.proofs.Narrowing.{narrowed_same}
+use Rattle.masks.proofs.RowMasks.{joined_front}
 use Rattle.masks.proofs.Telling.{kept, tells}
 
 module _ {k : List ℕ} {own : ℕ} {weighed : Weighed} {placed : Placed} {counts sums₀ sets₀ : List ℕ}
@@ -30,27 +35,41 @@ module _ {k : List ℕ} {own : ℕ} {weighed : Weighed} {placed : Placed} {count
       let low : v < 2 ^ ready.roles = lt_of_lt_of_le l (pow_mono ready.end_le) in
       ready.counted.each (bit_or placed.roles v) (or_lt ready.roles placed.roles v ready.placed_roles low)
 
-  pub masks_made : {entries sums numbers roles w sets : List ℕ} {half reached : ℕ} {rows : List ℕ}
-      → length sums ≡ length sums₀
-      → NarrowedAll k own 0 (placed.sum + (6 - placed.count) * weighed.heavy + 1) entries sums numbers roles
-      → SetsFor own numbers roles w placed.roles weighed.end sets → half ≡ 2 ^ weighed.end
-      → Joined 0 half sets reached
-      → Rows entries placed.count placed.sum weighed.light weighed.heavy reached sums rows
-      → Masks k own w weighed placed sums sets rows
-  masks_made size narrowed marked e joined made = record {
-    sums_size = size ∙ ready.sums_size;
-    sets_size = marked.size;
-    rows_size = made.size;
-    tells = λ p own_is n s v some few low high below weigh.
-        let most : n * weighed.heavy ≤ (6 - placed.count) * weighed.heavy =
-        mul-le-mul_right weighed.heavy (omega arith) in
-        tells narrowed marked ready.table ready.own_lt (made.each n few) (rw e at joined) some few low
-        (omega arith)
-        (omega arith) below weigh p own_is;
-    kept = kept narrowed marked;
-    none = λ n h. (made.each n (omega arith)).none h;
-    past = made.past;
-  }
+  abbrev top : ℕ
+  top = placed.sum + (6 - placed.count) * weighed.heavy
+
+  pub masks_made : {asked : Asked} {part w sets : List ℕ} {half reached : ℕ} {rows : List ℕ}
+      → length part ≡ length (take (top + 1) sums₀)
+      → NarrowedAll k own 0 (length (take (top + 1) sums₀)) asked part
+      → SetsFor own asked.numbers asked.roles w placed.roles weighed.end sets
+      → (half ≡ 2 ^ weighed.end) × (half ≤ 256) → Joined 0 (length (take half sets)) (take half sets) reached
+      → Rows asked.entries placed.count placed.sum weighed.light weighed.heavy reached
+      (part ++ drop (top + 1) sums₀) rows
+      → Masks k own w weighed placed (part ++ drop (top + 1) sums₀) sets rows
+  masks_made {part = part} {w} {sets} size narrowed marked e joined made =
+      let taken = length-take (top + 1) sums₀ in
+      let all = ready.sums_size in
+      let most = ready.top_le in
+      let long : length part ≡ top + 1 = omega arith in
+      let few = e.1 in
+      let held = marked.size in
+      let first : Joined 0 (2 ^ weighed.end) sets _ = rw (e.0) at (joined_front sets (omega arith) joined) in
+      let within = narrowed_same (rw (← size, long) at narrowed)
+      (λ x l. before_end sums₀ part (top + 1) x long l) in
+      record {
+        sums_size = length_end sums₀ part (top + 1) long (omega arith) ∙ all;
+        sets_size = held;
+        rows_size = made.size;
+        tells = λ p own_is n s v some few low high below weigh.
+            let most : n * weighed.heavy ≤ (6 - placed.count) * weighed.heavy =
+            mul-le-mul_right weighed.heavy (omega arith) in
+            tells within marked ready.table ready.own_lt (made.each n few) first some few low
+            (omega arith)
+            (omega arith) below weigh p own_is;
+        kept = kept within marked;
+        none = λ n h. (made.each n (omega arith)).none h;
+        past = made.past;
+      }
 
 -- the table K of a base that passes the check
 pub checked : (b : List ℕ) → refusal_of b ≡ 0 → Checked (table_of b clauses)

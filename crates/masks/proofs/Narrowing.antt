@@ -1,5 +1,5 @@
 -- The masks as clause after clause is struck out.
-use Prim.Native.Nat.{ℕ, zero, suc, ◌+◌, ◌-◌, ◌/◌, ◌%◌, ◌^◌, ◌<◌, ◌≤◌}
+use Prim.Native.Nat.{ℕ, zero, suc, ◌-◌, ◌/◌, ◌%◌, ◌^◌, ◌<◌, ◌≤◌}
 use mathlib.Core.Bool.{Bool, true, false, ◌&&◌, ◌||◌, not, and-true, or-true, or-false}
 use mathlib.Core.Path.{◌≡◌, refl, sym, ◌∙◌}
 use mathlib.Core.Logic.{⊎_elim}
@@ -7,14 +7,13 @@ use mathlib.Core.List.{List}
 use native.Mathlib.Omega.{arith}
 use borrow.Author.Tests.{eq-eqb, eqb-true}
 use lib.Dec.{eqb, eqb-suc-suc, eqb-suc-zero, eqb-zero-suc}
-use lib.ListN.{length, get_or, set, replicate, length-set, get_or-replicate}
+use lib.ListN.{length, get_or, replicate, length-replicate, get_or-replicate}
 use lib.Pow.{pow_pos}
 use Rattle.folds.specs.Sets.{in_set}
 use Rattle.folds.proofs.Bools.{met_or_not, and_left}
-use Rattle.folds.proofs.Lists.{stored}
 use Rattle.folds.proofs.Sets.{in_half, in_set_below}
-use Rattle.masks.specs.Clauses.{met, Struck, StruckAll, Room, AllBut, Narrowed, NarrowedAll, Filled}
-use Rattle.masks.proofs.Conditions.{room_after}
+use Rattle.masks.specs.declared.asked.Asked.{Asked}
+use Rattle.masks.specs.Clauses.{met, Struck, StruckAll, AllBut, Narrowed, NarrowedAll, Filled}
 
 -- the lowest bit of a set that has 0
 odd : (s : ℕ) → in_set s 0 ≡ true → s % 2 ≡ 1
@@ -76,8 +75,8 @@ module _ (k : List ℕ) (own rest i : ℕ) {others left : ℕ} (has : in_set res
           (λ t. rw t (other (in_set own b) (in_set rest b) (met k b a x) (met k i a x)))
           (met_or_not (eqb b i))
 
-  pub clause_done : {count : ℕ} {e s n r e' s' n' r' : List ℕ} → NarrowedAll k own rest count e s n r
-      → StruckAll count (met k i) others e s n r e' s' n' r' → NarrowedAll k own left count e' s' n' r'
+  pub clause_done : {count : ℕ} {was asked : Asked} {s s' : List ℕ} → NarrowedAll k own rest count was s
+      → StruckAll count (met k i) others was s asked s' → NarrowedAll k own left count asked s'
   clause_done n s = record {
     entries = step 0 n.entries s.entries;
     sums = step 1 n.sums s.sums;
@@ -86,36 +85,25 @@ module _ (k : List ℕ) (own rest i : ℕ) {others left : ℕ} (has : in_set res
   }
 
 -- the loop over the clauses: those of `rest` are left
-pub record Turn (k : List ℕ) (own count : ℕ) (s₀ : List ℕ) (rest : ℕ) (e s n r : List ℕ) : Type 0 where
-  pub room : Room count e s n r
+pub record Turn (k : List ℕ) (own : ℕ) (s₀ : List ℕ) (rest : ℕ) (asked : Asked) (s : List ℕ) : Type 0 where
   pub size : length s ≡ length s₀
   pub within : (b : ℕ) → in_set rest b ≡ true → in_set own b ≡ true
-  pub narrowed : NarrowedAll k own rest count e s n r
+  pub narrowed : NarrowedAll k own rest (length s₀) asked s
 
-module _ {k : List ℕ} {own count : ℕ} {s₀ : List ℕ} {rest : ℕ} {e s n r : List ℕ}
-    (turn : Turn k own count s₀ rest e s n r) where
+module _ {k : List ℕ} {own : ℕ} {s₀ : List ℕ} {rest : ℕ} {was : Asked} {s : List ℕ}
+    (turn : Turn k own s₀ rest was s) where
   -- a clause of the rest is one of the table
   pub in_table : {c i : ℕ} → own < 2 ^ c → in_set rest i ≡ true → i < c
   in_table {c} {i} small has = in_set_below c own i small (turn.within i has)
 
   -- one clause further
-  pub next : {i others left : ℕ} {e' s' n' r' : List ℕ} → in_set rest i ≡ true → AllBut own i others
-      → AllBut rest i left → StruckAll count (met k i) others e s n r e' s' n' r'
-      → Turn k own count s₀ left e' s' n' r'
+  pub next : {i others left : ℕ} {asked : Asked} {s' : List ℕ} → in_set rest i ≡ true → AllBut own i others
+      → AllBut rest i left → StruckAll (length s) (met k i) others was s asked s' → Turn k own s₀ left asked s'
   next {i} has o l struck = record {
-    room = room_after turn.room struck;
     size = struck.sums.size ∙ turn.size;
     within = λ b h. turn.within b (and_left (in_set rest b) (not (eqb b i)) (sym (l.members b) ∙ h));
-    narrowed = clause_done k own rest i has o l turn.narrowed struck;
+    narrowed = clause_done k own rest i has o l turn.narrowed (rw turn.size at struck);
   }
-
--- one mask more
-pub filled_next : {x own : ℕ} {was masks : List ℕ} → x < length masks → Filled x own was masks
-    → Filled (x + 1) own was (set masks x own)
-filled_next {x} {own} {was} {masks} l f = record {
-  size = length-set masks x own ∙ f.size;
-  each = stored masks x own (λ q v. v ≡ own) l f.each refl;
-}
 
 -- masks that have all clauses, none of which is struck out yet
 full : (k : List ℕ) (own : ℕ) {count : ℕ} (a : ℕ) {masks : List ℕ} → ((x : ℕ) → x < count → get_or masks x 0 ≡ own)
@@ -126,12 +114,31 @@ full k own a h = record { members = λ x b l. rw (h x l) (by (in_set own b) (met
     by true m = refl
     by false m = refl
 
+-- a slice filled by the library
+pub filled : {count own : ℕ} {was s : List ℕ} → length was ≡ count → s ≡ replicate count own → Filled count own was s
+filled {count} {own} c e = record {
+  size = rw (e, length-replicate) (sym c);
+  each = λ x l. rw e (get_or-replicate count x own 0 l);
+}
+
 -- those of each attribute
-pub full_all : (k : List ℕ) (own count : ℕ) {s₀ s : List ℕ} → Filled count own s₀ s
-    → NarrowedAll k own own count (replicate 7 own) s (replicate 9 own) (replicate 8 own)
-full_all k own count f = record {
-  entries = full k own 0 (λ x l. get_or-replicate 7 x own 0 l);
-  sums = full k own 1 f.each;
-  numbers = full k own 2 (λ x l. get_or-replicate 9 x own 0 l);
-  roles = full k own 3 (λ x l. get_or-replicate 8 x own 0 l);
+pub full_all : (k : List ℕ) (own count : ℕ) {asked : Asked} {s₀ s : List ℕ} → asked.entries ≡ replicate 7 own
+    → asked.numbers ≡ replicate 9 own → asked.roles ≡ replicate 8 own → Filled count own s₀ s
+    → NarrowedAll k own own count asked s
+full_all k own count e n r h = record {
+  entries = full k own 0 (λ x l. rw e (get_or-replicate 7 x own 0 l));
+  sums = full k own 1 h.each;
+  numbers = full k own 2 (λ x l. rw n (get_or-replicate 9 x own 0 l));
+  roles = full k own 3 (λ x l. rw r (get_or-replicate 8 x own 0 l));
+}
+
+-- the same masks of sums in a longer list
+pub narrowed_same : {k : List ℕ} {own rest count : ℕ} {asked : Asked} {s s' : List ℕ}
+    → NarrowedAll k own rest count asked s → ((x : ℕ) → x < count → get_or s' x 0 ≡ get_or s x 0)
+    → NarrowedAll k own rest count asked s'
+narrowed_same n e = record {
+  entries = n.entries;
+  sums = record { members = λ x b l. rw (e x l) (n.sums.members x b l) };
+  numbers = n.numbers;
+  roles = n.roles;
 }

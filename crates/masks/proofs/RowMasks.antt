@@ -1,41 +1,68 @@
 -- The rows: what the clauses of a number of entries are.
-use Prim.Native.Nat.{ℕ, ◌+◌, ◌-◌, ◌*◌, ◌<◌, ◌≤◌}
+use Prim.Native.Nat.{ℕ, suc, ◌+◌, ◌-◌, ◌*◌, ◌<◌, ◌≤◌}
 use mathlib.Core.Bool.{◌&&◌, or-true}
-use mathlib.Core.Path.{◌≡◌, refl, sym, ◌∙◌}
+use mathlib.Core.Path.{◌≡◌, refl, sym, ap, ◌∙◌}
 use mathlib.Core.Logic.{⊎_elim}
-use mathlib.Core.List.{List}
-use native.Mathlib.Nat.{lt_of_lt_of_le, le_trans, mul-le-mul_left, mul-le-mul_right}
+use mathlib.Core.List.{List, ◌++◌}
+use native.Mathlib.Nat.{le_trans, mul-le-mul_left, mul-le-mul_right}
 use native.Mathlib.Omega.{arith}
-use borrow.Author.Count.{below_none}
-use borrow.Author.Tests.{eqb-true, eqb-false, ltb-true, ltb-false}
+use borrow.Author.Tests.{eqb-true, eqb-false}
 use lib.Bits.{bit_and, bit_or}
-use lib.Dec.{eqb, ltb}
-use lib.ListN.{length, get_or, set, replicate, length-set, get_or-replicate, get_or-eq_default}
-use lib.Seq.{get_or-set_other}
+use lib.Dec.{eqb}
+use lib.ListN.{length, get_or, take, drop, replicate}
 use Rattle.folds.specs.Sets.{in_set}
 use Rattle.folds.proofs.Bools.{met_or_not, clash, and_left, and_both}
-use Rattle.folds.proofs.Lists.{stored}
+use Rattle.folds.proofs.Lists.{zero_at}
 use Rattle.folds.proofs.Sets.{in_and, in_or, in_none}
+use Rattle.std.specs.List.{fold}
+use Rattle.std.proofs.lemmas.List.{length-take, get_or-take, get_or-drop}
+use Rattle.std.proofs.Common.{length-drop}
 use Rattle.masks.specs.Rows.{Joined, RowFor, Rows}
+use Rattle.masks.proofs.Chains.{fold_steps, before_end, from_end, length_end}
 
 -- at first no mask is joined
-pub joined_none : (from : ℕ) {masks : List ℕ} → Joined from from masks 0
+joined_none : (from : ℕ) {masks : List ℕ} → Joined from from masks 0
 joined_none from = record { has = λ q b l m h. absurd (omega arith) }
 
 -- one mask more
-pub joined_next : {from q all : ℕ} {masks : List ℕ} → Joined from q masks all
-    → Joined from (q + 1) masks (bit_or all (get_or masks q 0))
-joined_next {from} {q} {all} {masks} j = record {
+joined_next : {q all : ℕ} {masks : List ℕ} → Joined 0 q masks all
+    → Joined 0 (suc q) masks (bit_or all (get_or masks q 0))
+joined_next {q} {all} {masks} j = record {
   has = λ p b l m h. ⊎_elim
       (λ t. let e : p ≡ q = eqb-true p q t in in_or all (get_or masks q 0) b ∙ rw (← e, h) (or-true (in_set all b)))
       (λ t. let d = eqb-false p q t in in_or all (get_or masks q 0) b ∙ rw (j.has p b l (omega (arith, d)) h))
       (met_or_not (eqb p q));
 }
 
--- fewer masks
-pub joined_fewer : {from end more all : ℕ} {masks : List ℕ} → end ≤ more → Joined from more masks all
+-- all
+pub joined_all : (masks : List ℕ) {all : ℕ} → all ≡ fold (λ all mask. bit_or all mask) 0 masks
+    → Joined 0 (length masks) masks all
+joined_all masks e =
+    rw e (fold_steps (λ q all. Joined 0 q masks all) (λ all mask. bit_or all mask) 0 masks 0 (joined_none 0)
+    (λ q all l j. joined_next j))
+
+-- those of a part of a list
+pub joined_front : (masks : List ℕ) {end all : ℕ} → end ≤ length masks
+    → Joined 0 (length (take end masks)) (take end masks) all → Joined 0 end masks all
+joined_front masks {end} h j =
+    let size = length-take end masks in
+    record {
+      has = λ q b l m i. j.has q b l (omega arith) (ap (λ x. in_set x b) (get_or-take end masks q 0 m) ∙ i);
+    }
+
+pub joined_part : {masks : List ℕ} {from end all : ℕ} → end ≤ length masks → from ≤ end
+    → Joined 0 (length (take (end - from) (drop from masks))) (take (end - from) (drop from masks)) all
     → Joined from end masks all
-joined_fewer h j = record { has = λ q b l m. j.has q b l (lt_of_lt_of_le m h) }
+joined_part {masks} {from} {end} h le j =
+    let size = length-take (end - from) (drop from masks) in
+    let left = length-drop from masks in
+    record {
+      has = λ q b l m i.
+          let s : from + (q - from) ≡ q = omega arith in
+          let e = get_or-take (end - from) (drop from masks) (q - from) 0 (omega arith)
+          ∙ get_or-drop from masks (q - from) 0 ∙ ap (λ x. get_or masks x 0) s in
+          j.has (q - from) b (omega arith) (omega arith) (ap (λ x. in_set x b) e ∙ i);
+    }
 
 -- no row for no entry
 pub row_none : {entries : List ℕ} {number reached : ℕ} {sums : List ℕ} {from end : ℕ} → number ≡ 0
@@ -62,52 +89,38 @@ row_some {entries} {number} {reached} {all = all} d j = record {
     within b = in_and (bit_and (get_or entries number 0) reached) all b
         ∙ rw (in_and (get_or entries number 0) reached b)
 
--- the first m rows are made
-pub record RowsTo (entries : List ℕ) (count sum light heavy reached m : ℕ) (sums rows : List ℕ) : Type 0 where
-  pub size : length rows ≡ 7
-  pub each : (n : ℕ) → n < m
-      → RowFor entries (count + n) reached sums (sum + n * light) (sum + n * heavy + 1) (get_or rows n 0)
-  pub rest : (n : ℕ) → m ≤ n → get_or rows n 0 ≡ 0
-
-pub rows_none : (entries : List ℕ) (count sum light heavy reached : ℕ) (sums : List ℕ)
-    → RowsTo entries count sum light heavy reached 0 sums (replicate 7 0)
-rows_none entries count sum light heavy reached sums =
-    record { size = refl; each = below_none _; rest = λ n l. zeros n }
-  where
-    zeros : (n : ℕ) → get_or {A = ℕ} (replicate 7 0) n 0 ≡ 0
-    zeros n = ⊎_elim (λ t. get_or-replicate 7 n 0 0 (ltb-true n 7 t))
-        (λ t. get_or-eq_default (replicate 7 0) 0 (ltb-false n 7 t)) (met_or_not (ltb n 7))
-
-module _ {entries : List ℕ} {count sum light heavy reached m : ℕ} {sums rows : List ℕ}
-    (r : RowsTo entries count sum light heavy reached m sums rows) where
-  pub rows_next : {row : ℕ} → m < 7
-      → RowFor entries (count + m) reached sums (sum + m * light) (sum + m * heavy + 1) row
-      → RowsTo entries count sum light heavy reached (m + 1) sums (set rows m row)
-  rows_next {row} l h =
-      let size = r.size in
-      record {
-        size = length-set rows m row ∙ size;
-        each = stored rows m row
-            (λ n x. RowFor entries (count + n) reached sums (sum + n * light) (sum + n * heavy + 1) x) (omega arith)
-            r.each h;
-        rest = λ n k. get_or-set_other rows m n row 0 (λ e. omega arith) ∙ r.rest n (omega arith);
-      }
-
-  pub rows_all : m ≡ 7 - count → count ≤ 6 → Rows entries count sum light heavy reached sums rows
-  rows_all e l = record {
-    size = r.size;
-    each = λ n h. r.each n (omega arith);
-    past = λ n h. r.rest n (omega arith);
-  }
-
 -- the sums of n entries more are among the masks
 pub record Within (n count sum light heavy size : ℕ) : Type 0 where
   pub number : count + n ≤ 6
   pub low : n * light ≤ n * heavy
   pub high : sum + n * heavy + 1 ≤ size
 
-pub sums_within : (n count sum light heavy size : ℕ) → count ≤ 6 → n < 7 - count → light ≤ heavy
-    → sum + (6 - count) * heavy + 1 ≤ size → Within n count sum light heavy size
-sums_within n count sum light heavy size few l h within =
-    let most : n * heavy ≤ (6 - count) * heavy = mul-le-mul_right heavy (omega arith) in
-    record { number = omega arith; low = mul-le-mul_left n h; high = le_trans (omega arith) within }
+-- no row is made yet
+abbrev zeros : List ℕ
+zeros = replicate 7 0
+
+-- there are rows up to six entries
+rows_size : (count : ℕ) → length (take (7 - count) zeros) ≡ 7 - count
+rows_size count = let e = length-take (7 - count) zeros in omega arith
+
+module _ {count sum light heavy : ℕ} (few : count ≤ 6) where
+  pub sums_within : (n size : ℕ) → n < length (take (7 - count) zeros) → light ≤ heavy
+      → sum + (6 - count) * heavy + 1 ≤ size → Within n count sum light heavy size
+  sums_within n size l h within =
+      let e = rows_size count in
+      let most : n * heavy ≤ (6 - count) * heavy = mul-le-mul_right heavy (omega arith) in
+      record { number = omega arith; low = mul-le-mul_left n h; high = le_trans (omega arith) within }
+
+  -- those of more are 0
+  pub rows_all : {entries : List ℕ} {reached n : ℕ} {sums : List ℕ} (made : List ℕ)
+      → length made ≡ length (take (7 - count) zeros) → length (take (7 - count) zeros) ≤ n
+      → ((m : ℕ) → m < n → RowFor entries (count + m) reached sums (sum + m * light) (sum + m * heavy + 1)
+      (get_or made m 0))
+      → Rows entries count sum light heavy reached sums (made ++ drop (7 - count) zeros)
+  rows_all made long l each =
+      let size = long ∙ rows_size count in
+      record {
+        size = length_end zeros made (7 - count) size (omega arith);
+        each = λ n h. rw (before_end zeros made (7 - count) n size (omega arith)) (each n (omega arith));
+        past = λ n h. from_end zeros made (7 - count) n size (omega arith) ∙ zero_at 7 n;
+      }

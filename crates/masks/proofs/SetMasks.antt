@@ -3,27 +3,30 @@ use Prim.Native.Nat.{ℕ, suc, ◌+◌, ◌-◌, ◌^◌, ◌<◌, ◌≤◌}
 use mathlib.Core.Bool.{Bool, true, false, ◌&&◌, ◌||◌, cond, and-true, and_assoc, or-true, or-false}
 use mathlib.Core.Path.{◌≡◌, refl, sym, ap, ◌∙◌}
 use mathlib.Core.Logic.{⊎_elim}
-use mathlib.Core.List.{List}
+use mathlib.Core.List.{List, ◌++◌}
 use native.Mathlib.Numerals.{add-one}
-use native.Mathlib.Nat.{one-mul}
+use native.Mathlib.Nat.{one-mul, add-zero, add-suc}
 use native.Mathlib.Omega.{arith}
-use borrow.Author.Count.{below_none}
-use borrow.Author.Tests.{eq-eqb, ne_eqb, eqb-true, eqb-false, lt-ltb, le-ltb, ltb-true, ltb-false}
+use borrow.Author.Tests.{eq-eqb, ne_eqb, lt-ltb, le-ltb, ltb-true, ltb-false}
 use lib.Bits.{bit_and, bit_or, or_shifted_r}
 use lib.Dec.{eqb, ltb}
-use lib.ListN.{length, get_or, set, length-set}
-use lib.Seq.{get_or-set_same, get_or-set_other}
+use lib.ListN.{length, get_or, set, take, drop, length-set}
+use lib.Seq.{get_or-set_same}
 use lib.Pow.{pow_mono}
 use Rattle.folds.specs.Below.{all_below}
 use Rattle.folds.specs.Sets.{in_set}
 use Rattle.folds.proofs.Bools.{met_or_not, same_test, and_left, and_right, and_both}
-use Rattle.folds.proofs.Lists.{stored}
 use Rattle.folds.proofs.Numbers.{count_le}
 use Rattle.folds.proofs.Tests.{all_each, all_at, all_same}
 use Rattle.folds.proofs.Sets.{in_and, in_none, in_added, in_set_high}
 use Rattle.decision.specs.Conditions.{role_num}
-use Rattle.masks.specs.Sets.{RoleCounts, spared, spared_from, role_fits, WithinReach}
+use Rattle.std.specs.List.{fold, between}
+use Rattle.std.proofs.lemmas.Slice.{between_to_end}
+use Rattle.std.proofs.lemmas.List.{length-take, get_or-take, get_or-drop}
+use Rattle.std.proofs.Common.{length-drop}
+use Rattle.masks.specs.Sets.{RoleCounts, Without, spared, spared_from, role_fits, WithinReach}
 use Rattle.masks.specs.Sets.{Doubled, SetsMarked, NumbersFit, SetsFor}
+use Rattle.masks.proofs.Chains.{fold_steps, Changed, before_end, length_end}
 
 -- clauses that are left where a role is in `start`, or else those that don't ask for it
 chosen : (s z o : Bool) (own mask b : ℕ) → o ≡ in_set own b
@@ -34,7 +37,7 @@ chosen false z o own mask b e = and_assoc o z (in_set mask b)
 
 module _ (own : ℕ) (roles : List ℕ) (start end : ℕ) where
   -- at first all
-  pub reach_none : WithinReach own roles start end end own
+  reach_none : WithinReach own roles start end end own
   unfolding spared_from
   reach_none = record {
     members = λ b. rw (all_each (spared_from roles start end b) end (λ r l. rw (lt-ltb r end l)))
@@ -42,76 +45,34 @@ module _ (own : ℕ) (roles : List ℕ) (start end : ℕ) where
   }
 
   -- one role further
-  pub reach_next : {r reached other : ℕ} → end ≤ r → WithinReach own roles start end r reached
+  reach_next : {r reached other : ℕ} → end ≤ r → WithinReach own roles start end r reached
       → other ≡ cond (in_set start r) own (get_or roles r 0)
-      → WithinReach own roles start end (r + 1) (bit_and reached other)
+      → WithinReach own roles start end (suc r) (bit_and reached other)
   unfolding spared_from spared all_below
   reach_next {r} {reached} h w e = record {
-    members = λ b. in_and reached _ b ∙ rw (w.members b, e, add-one, le-ltb r end h)
+    members = λ b. in_and reached _ b ∙ rw (w.members b, e, le-ltb r end h)
         (chosen (in_set start r) (all_below r (spared_from roles start end b)) (in_set own b) own
         (get_or roles r 0) b refl);
   }
 
--- the first v of the masks are doubled
-pub record Doubling (half without with v : ℕ) (was masks : List ℕ) : Type 0 where
-  pub size : length masks ≡ length was
-  pub lower : (u : ℕ) → u < v → get_or masks u 0 ≡ bit_and (get_or was u 0) without
-  pub upper : (u : ℕ) → u < v → get_or masks (half + u) 0 ≡ bit_and (get_or was u 0) with
-  pub rest : (u : ℕ) → v ≤ u → u < half → get_or masks u 0 ≡ get_or was u 0
+-- the mask that a set without role r has left
+pub without_at : {own start r at : ℕ} {roles without : List ℕ} → Without own roles start without → at ≡ r → r < 8
+    → get_or without at 0 ≡ cond (in_set start r) own (get_or roles r 0)
+without_at h e l = rw e (h.each _ l)
 
-pub doubling_none : {half without with : ℕ} {was : List ℕ} → Doubling half without with 0 was was
-doubling_none = record {
-  size = refl;
-  lower = λ u l. absurd (omega arith);
-  upper = λ u l. absurd (omega arith);
-  rest = λ u l m. refl;
-}
-
-module _ {half without with v : ℕ} {was masks : List ℕ} (d : Doubling half without with v was masks) (l : v < half)
-    (room : half + half ≤ length was) where
-  -- one further: the two stores
-  abbrev first : List ℕ
-  first = set masks (half + v) (bit_and (get_or masks v 0) with)
-
-  abbrev second : List ℕ
-  second = set first v (bit_and (get_or masks v 0) without)
-
-  -- a place other than the two
-  apart : (q : ℕ) → (q ≡ v → ⊥) → (q ≡ half + v → ⊥) → get_or second q 0 ≡ get_or masks q 0
-  apart q e f =
-      get_or-set_other first v q (bit_and (get_or masks v 0) without) 0 e
-      ∙ get_or-set_other masks (half + v) q (bit_and (get_or masks v 0) with) 0 f
-
-  at_low : get_or second v 0 ≡ bit_and (get_or was v 0) without
-  at_low =
-      let size = d.size in
-      let m : v < length first = rw (length-set masks (half + v) (bit_and (get_or masks v 0) with)) (omega arith) in
-      get_or-set_same first v (bit_and (get_or masks v 0) without) 0 m
-      ∙ ap (λ (x : ℕ). bit_and x without) (d.rest v (omega arith) l)
-
-  at_high : get_or second (half + v) 0 ≡ bit_and (get_or was v 0) with
-  at_high =
-      let size = d.size in
-      get_or-set_other first v (half + v) (bit_and (get_or masks v 0) without) 0 (λ e. omega arith)
-      ∙ get_or-set_same masks (half + v) (bit_and (get_or masks v 0) with) 0 (omega arith)
-      ∙ ap (λ (x : ℕ). bit_and x with) (d.rest v (omega arith) l)
-
-  pub doubling_next : Doubling half without with (v + 1) was second
-  doubling_next = record {
-    size = length-set first v _ ∙ length-set masks (half + v) _ ∙ d.size;
-    lower = λ u m. ⊎_elim (λ t. let e : u ≡ v = eqb-true u v t in rw e at_low)
-        (λ t. let e = eqb-false u v t in apart u e (λ q. omega arith) ∙ d.lower u (omega (arith, e)))
-        (met_or_not (eqb u v));
-    upper = λ u m. ⊎_elim (λ t. let e : u ≡ v = eqb-true u v t in rw e at_high)
-        (λ t. let e = eqb-false u v t in
-        apart (half + u) (λ q. omega arith) (λ q. e (omega arith)) ∙ d.upper u (omega (arith, e)))
-        (met_or_not (eqb u v));
-    rest = λ u m h. apart u (λ q. omega arith) (λ q. omega arith) ∙ d.rest u (omega arith) h;
-  }
-
-pub doubled : {half without with v : ℕ} {was masks : List ℕ} → Doubling half without with v was masks → v ≡ half
-    → Doubled half without with was masks
-doubled d e = record { size = d.size; lower = rw e at d.lower; upper = rw e at d.upper }
+-- all roles from `end` on
+pub reached_all : {own start end at reached : ℕ} {roles without : List ℕ} → Without own roles start without → end ≤ 8
+    → at ≡ end → reached ≡ fold (λ reached mask. bit_and reached mask) own (between at 8 without)
+    → WithinReach own roles start end 8 reached
+reached_all {own} {start} {end} {roles = roles} {without} h l e f =
+    let size = h.size in
+    let left = length-drop end without in
+    let s : end + length (drop end without) ≡ 8 = omega arith in
+    rw (f, e, between_to_end without end 8 (omega arith))
+    (rw s at (fold_steps (λ i reached. WithinReach own roles start end (end + i) reached)
+    (λ reached mask. bit_and reached mask) 0 (drop end without) own (rw add-zero (reach_none own roles start end))
+    (λ i reached m w. rw (add-suc end i) (reach_next own roles start end (omega arith) w
+    (get_or-drop end without i 0 ∙ h.each (end + i) (omega arith))))))
 
 -- the masks of the sets below 2 ^ n, as far as the roles below n go, of clauses within reach
 pub record MarkedTo (own : ℕ) (roles w : List ℕ) (start end n : ℕ) (sets : List ℕ) : Type 0 where
@@ -127,9 +88,14 @@ pub half_is : {half n without with : ℕ} {was masks : List ℕ} → half ≡ n 
     → Doubled n without with was masks
 half_is e d = rw e at d
 
-pub weight_of : (w : List ℕ) (own : ℕ) {q n with : ℕ} → q ≡ n → with ≡ cond (ltb 0 (get_or w q 0)) own 0
+-- the clauses left with role n: all if it has weight, else none
+pub with_weight : (w : List ℕ) (own : ℕ) {q n with : ℕ} → q ≡ n → 0 < get_or w q 0 → with ≡ own
     → with ≡ cond (ltb 0 (get_or w n 0)) own 0
-weight_of w own e h = rw e at h
+with_weight w own e h i = rw (i, lt-ltb 0 (get_or w _ 0) (rw e at h))
+
+pub with_none : (w : List ℕ) (own : ℕ) {q n with : ℕ} → q ≡ n → get_or w q 0 ≤ 0 → with ≡ 0
+    → with ≡ cond (ltb 0 (get_or w n 0)) own 0
+with_none w own e h i = rw (i, le-ltb 0 (get_or w _ 0) (rw e at h))
 
 -- a set with the next role
 with_next : (n u r : ℕ) → u < 2 ^ n → in_set (2 ^ n + u) r ≡ (in_set u r || eqb n r)
@@ -242,14 +208,16 @@ pub role_num_le : (set : ℕ) → role_num set ≤ 8
 unfolding role_num
 role_num_le set = count_le (in_set set) 8
 
--- one set more is counted
-pub counted_next : {v count : ℕ} {counts : List ℕ} → RoleCounts v counts → v < 256 → count ≡ role_num v
-    → RoleCounts (v + 1) (set counts v count)
-counted_next {v} {count} {counts} c l e =
-    let size = c.size in
+-- the sets below `end` are counted
+pub counted_all : {end n : ℕ} (was counts : List ℕ) → length was ≡ 256 → end ≤ 256 → length (take end was) ≤ n
+    → Changed (λ v count. role_num v) n (take end was) counts → RoleCounts end (counts ++ drop end was)
+counted_all {end} was counts size l e c =
+    let s = c.size in
+    let t = length-take end was in
+    let long : length counts ≡ end = omega arith in
     record {
-      size = length-set counts v count ∙ size;
-      each = stored counts v count (λ u x. x ≡ role_num u) (omega arith) c.each e;
+      size = length_end was counts end long (omega arith) ∙ size;
+      each = λ v m. before_end was counts end v long m ∙ c.done v (omega arith);
     }
 
 -- the count at a set
@@ -257,41 +225,25 @@ pub counted : (counts : List ℕ) {at set count : ℕ} → at ≡ set → count 
     → get_or counts set 0 ≡ role_num set → count ≡ role_num set
 counted counts e c h = c ∙ rw e h
 
--- the first v of the masks have only clauses that the number of roles meets
-pub record Fitted (v : ℕ) (numbers : List ℕ) (start : ℕ) (was sets : List ℕ) : Type 0 where
-  pub done : NumbersFit v numbers start was sets
-  pub rest : (u : ℕ) → v ≤ u → get_or sets u 0 ≡ get_or was u 0
-
-pub fitted_none : {numbers : List ℕ} {start : ℕ} {was : List ℕ} → Fitted 0 numbers start was was
-fitted_none = record { done = record { size = refl; each = below_none _ }; rest = λ u l. refl }
-
--- one further, where `number` is the mask of the number of roles
-pub fitted_next : {v : ℕ} (numbers : List ℕ) {start count at : ℕ} {was sets : List ℕ} → Fitted v numbers start was sets
-    → v < length sets → at ≡ count → count ≡ role_num (bit_or start v)
-    → Fitted (v + 1) numbers start was (set sets v (bit_and (get_or sets v 0) (get_or numbers at 0)))
-fitted_next {v} numbers {start} {count} {at} {was} {sets} f l e q = record {
-  done = record {
-    size = length-set sets v _ ∙ f.done.size;
-    each = stored sets v (bit_and (get_or sets v 0) (get_or numbers at 0))
-        (λ u x. x ≡ bit_and (get_or was u 0) (get_or numbers (role_num (bit_or start u)) 0)) l f.done.each
-        (rw (f.rest v (omega arith), e, q));
-  };
-  rest = λ u m. get_or-set_other sets v u _ 0 (λ d. omega arith) ∙ f.rest u (omega arith);
-}
-
-pub below_as : {P : ℕ → Type 0} {half n : ℕ} → half ≡ n → ((v : ℕ) → v < n → P v) → (v : ℕ) → v < half → P v
-below_as e h v l = h v (rw e at l)
-
 -- the masks of the sets, where clauses ask for numbers of roles
 pub sets_fitted : {own : ℕ} {roles w : List ℕ} {start end half : ℕ} {was sets : List ℕ} (numbers : List ℕ)
-    → half ≡ 2 ^ end → SetsMarked own roles w start end was → NumbersFit half numbers start was sets
-    → SetsFor own numbers roles w start end sets
-sets_fitted {start = start} {was = was} numbers e m f = record {
-  size = f.size ∙ m.size;
-  members = λ v b l.
-      ap (λ (x : ℕ). in_set x b) (f.each v (rw e l)) ∙ in_and (get_or was v 0) _ b
-      ∙ ap (λ (c : Bool). c && in_set (get_or numbers (role_num (bit_or start v)) 0) b) (m.members v b l);
-}
+    → (half ≡ 2 ^ end) × (half ≤ 256) → SetsMarked own roles w start end was
+    → NumbersFit (length (take half was)) numbers start (take half was) sets
+    → SetsFor own numbers roles w start end (sets ++ drop half was)
+sets_fitted {start = start} {half = half} {was} {sets} numbers e m f =
+    let size = m.size in
+    let few = e.1 in
+    let all = length-take half was in
+    let long : length sets ≡ half = f.size ∙ omega arith in
+    record {
+      size = length_end was sets half long (omega arith) ∙ size;
+      members = λ v b l.
+          let less : v < half = rw (e.0) l in
+          ap (λ (x : ℕ). in_set x b) (before_end was sets half v long less ∙ f.each v (omega arith)
+          ∙ ap (λ (x : ℕ). bit_and x (get_or numbers (role_num (bit_or start v)) 0)) (get_or-take half was v 0 less))
+          ∙ in_and (get_or was v 0) _ b
+          ∙ ap (λ (c : Bool). c && in_set (get_or numbers (role_num (bit_or start v)) 0) b) (m.members v b l);
+    }
 
 -- and where none does
 pub sets_plain : {own : ℕ} {roles w : List ℕ} {start end : ℕ} {sets : List ℕ} (numbers : List ℕ)

@@ -1,22 +1,28 @@
 -- Clauses struck out of masks, step by step.
-use Prim.Native.Nat.{ℕ, ◌+◌, ◌<◌, ◌≤◌}
-use mathlib.Core.Bool.{Bool, true, false, ◌&&◌, ◌||◌, not, and-true, and-false, or-true, or-false, and_assoc}
+use Prim.Native.Nat.{ℕ, ◌+◌, ◌-◌, ◌<◌, ◌≤◌, min}
+use mathlib.Core.Bool.{Bool, true, false, ◌&&◌, ◌||◌, not, cond, and-true, or-true, or-false, and_assoc}
 use mathlib.Core.Path.{◌≡◌, refl, sym, ap, ◌∙◌}
 use mathlib.Core.Logic.{⊎_elim}
-use mathlib.Core.List.{List}
-use native.Mathlib.Nat.{lt_of_lt_of_le}
+use mathlib.Core.List.{List, ◌++◌, map}
+use native.Mathlib.Nat.{lt_of_lt_of_le, min-eq_left, min-le_right}
 use native.Mathlib.Omega.{arith}
 use borrow.Author.Tests.{eq-eqb, ne_eqb, eqb-true, eqb-false, lt-ltb, le-ltb}
 use borrow.Author.Tests.{lt-leb, le-leb, leb-true, leb-false, ltb-true, ltb-false}
+use borrow.Rule.Slice.PartMut.{put_mid}
 use lib.Bits.{bit_and}
 use lib.Dec.{eqb, ltb, leb, leb-suc-zero}
-use lib.ListN.{length, get_or, set, length-set}
+use lib.ListN.{length, get_or, set, take, drop, length-set}
 use lib.Seq.{get_or-set_same, get_or-set_other}
+use Rattle.std.proofs.Common.{length-drop}
+use Rattle.std.specs.List.{between}
+use Rattle.std.proofs.lemmas.Slice.{between_to_end}
+use Rattle.std.proofs.lemmas.List.{length-map, length-take, get_or-map, get_or-take, get_or-drop}
 use Rattle.folds.specs.Sets.{in_set}
 use Rattle.folds.proofs.Bools.{met_or_not}
 use Rattle.folds.proofs.Sets.{in_and}
 use Rattle.weights.specs.Operators.{RangeOf}
 use Rattle.masks.specs.Clauses.{Cut, apart_from, within, stands_to, lacks, Struck}
+use Rattle.masks.proofs.Chains.{Changed, before_end, from_end, before_start, from_start, length_end, length_start}
 
 module _ {count others : ℕ} where
   -- where each test holds nothing is struck out
@@ -61,33 +67,60 @@ module _ {count others : ℕ} where
       → Struck count f others was now
   struck_fewer h s = record { size = s.size; members = λ x b l. s.members x b (lt_of_lt_of_le l h) }
 
-  -- at first no mask is reached
-  pub struck_start : {was : List ℕ} (from : ℕ) → Struck count (apart_from from from) others was was
+-- the masks before `low`, and those from `end` on
+module _ {others : ℕ} {was part : List ℕ} where
+  struck_front : {low : ℕ} → low ≤ length was → part ≡ map (λ mask. bit_and mask others) (take low was)
+      → Struck (length was) (apart_from 0 low) others was (part ++ drop low was)
   unfolding apart_from
-  struck_start from = struck_none (λ x l. by x)
-    where
-      by : (x : ℕ) → (ltb x from || leb from x) ≡ true
-      by x = ⊎_elim (λ t. rw t (or-true (ltb x from))) (λ t. rw (t, lt-ltb x from (leb-false from x t)))
-          (met_or_not (leb from x))
+  struck_front {low} h e =
+      let long : length part ≡ low = rw (e, length-map, length-take) (min-eq_left h) in
+      record {
+        size = length_end was part low long h;
+        members = λ x b l. ⊎_elim
+            (λ t. let m = ltb-true x low t in
+            ap (λ y. in_set y b) (before_end was part low x long m ∙ ap (λ ys. get_or ys x 0) e
+            ∙ get_or-map (λ mask. bit_and mask others) (take low was) x 0 0 (rw (length-take, min-eq_left h) m)
+            ∙ ap (λ y. bit_and y others) (get_or-take low was x 0 m))
+            ∙ in_and (get_or was x 0) others b ∙ rw (leb-suc-zero x, lt-leb low x m))
+            (λ t. let m = ltb-false x low t in
+            ap (λ y. in_set y b) (from_end was part low x long m)
+            ∙ rw (leb-suc-zero x, le-leb low x m) (sym (and-true (in_set (get_or was x 0) b))))
+            (met_or_not (ltb x low));
+      }
 
-  -- the masks from one on, one further
-  pub struck_next : {was masks : List ℕ} {from q : ℕ} → from ≤ q → q < length masks
-      → Struck count (apart_from from q) others was masks
-      → Struck count (apart_from from (q + 1)) others was (set masks q (bit_and (get_or masks q 0) others))
+  struck_back : {end count : ℕ} → length was ≡ count → end ≤ count
+      → part ≡ map (λ mask. bit_and mask others) (drop end was)
+      → Struck count (apart_from end count) others was (put_mid end (length was - end) was part)
   unfolding apart_from
-  struck_next {from = from} {q} h l s = struck_as (struck_both s (struck_one q l)) (λ x m. by x)
-    where
-      by : (x : ℕ) → ((ltb x from || leb q x) && not (eqb x q)) ≡ (ltb x from || leb (q + 1) x)
-      by x = ⊎_elim
-          (λ t. let e : x ≡ q = eqb-true x q t in
-          rw (e, eq-eqb q q refl, le-ltb q from h, le-leb q q (omega arith), lt-leb (q + 1) q (omega arith)))
-          (λ t. rw t
-          (and-true (ltb x from || leb q x) ∙ ap (λ (c : Bool). ltb x from || c) (further x (eqb-false x q t))))
-          (met_or_not (eqb x q))
-        where
-          further : (x : ℕ) → (x ≡ q → ⊥) → leb q x ≡ leb (q + 1) x
-          further x d = ⊎_elim (λ t. let m = leb-true q x t in rw (t, le-leb (q + 1) x (omega (arith, d))))
-              (λ t. let m = leb-false q x t in rw (t, lt-leb (q + 1) x (omega arith))) (met_or_not (leb q x))
+  struck_back {end} {count} c h e =
+      let long : length part ≡ length was - end = rw (e, length-map, length-drop) refl in
+      record {
+        size = length_start was part end (omega arith) long;
+        members = λ x b l. ⊎_elim
+            (λ t. let m = ltb-true x end t in
+            ap (λ y. in_set y b) (before_start was part end x (omega arith) m)
+            ∙ rw t (sym (and-true (in_set (get_or was x 0) b))))
+            (λ t. let m = ltb-false x end t in
+            let s : end + (x - end) ≡ x = omega arith in
+            ap (λ y. in_set y b) (from_start was part end x long m (omega arith) ∙ ap (λ ys. get_or ys (x - end) 0) e
+            ∙ get_or-map (λ mask. bit_and mask others) (drop end was) (x - end) 0 0 (rw length-drop (omega arith))
+            ∙ ap (λ y. bit_and y others) (get_or-drop end was (x - end) 0 ∙ ap (λ q. get_or was q 0) s))
+            ∙ in_and (get_or was x 0) others b ∙ rw (t, lt-leb count x l))
+            (met_or_not (ltb x end));
+      }
+
+-- a bound cut at `count`
+cut : {count bound m : ℕ} → m ≡ min bound count → Cut count bound m
+cut {count} {bound} {m} e = record {
+  at_most = rw e (min-le_right bound count);
+  same = λ x l. rw e (by x l);
+}
+  where
+    by : (x : ℕ) → x < count → leb (min bound count) x ≡ leb bound x
+    by x l = ⊎_elim
+        (λ t. let h = leb-true bound x t in rw t (le-leb (min bound count) x (omega arith)))
+        (λ t. let h = leb-false bound x t in rw t (lt-leb (min bound count) x (omega arith)))
+        (met_or_not (leb bound x))
 
 -- below is not from there on
 below_not : (x e : ℕ) → ltb x e ≡ not (leb e x)
@@ -102,11 +135,17 @@ module _ {count low end low' end' : ℕ} (lo : Cut count low low') (hi : Cut cou
       let below : ltb x end' ≡ ltb x end = below_not x end' ∙ rw (hi.same x l) (sym (below_not x end)) in
       rw (leb-suc-zero x, lo.same x l, lt-leb count x l, below, or-false)
 
-  pub struck_sides : {others : ℕ} {was then after : List ℕ} → count ≤ length was
-      → Struck (length was) (apart_from 0 low') others was then
-      → Struck (length then) (apart_from end' count) others then after → Struck count (within low end) others was after
-  struck_sides fits s t =
-      struck_as (struck_both (struck_fewer fits s) (struck_fewer (rw s.size fits) t)) in_range
+-- the list with its front struck, and then its end
+pub struck_sides : (others low end : ℕ) (was front back : List ℕ) {low' end' : ℕ} → low' ≡ min low (length was)
+    → end' ≡ min end (length was) → front ≡ map (λ mask. bit_and mask others) (take low' was)
+    → back ≡ map (λ mask. bit_and mask others) (between end' (length (front ++ drop low' was)) (front ++ drop low' was))
+    → Struck (length was) (within low end) others was
+    (put_mid end' (length (front ++ drop low' was) - end') (front ++ drop low' was) back)
+struck_sides others low end was front back {low'} {end'} lo hi f b =
+    let first = struck_front (cut lo).at_most f in
+    let then = front ++ drop low' was in
+    let all = between_to_end then end' (length then) (omega arith) in
+    struck_as (struck_both first (struck_back first.size (cut hi).at_most (rw all at b))) (in_range (cut lo) (cut hi))
 
 -- and at the gap
 module _ {o v low end but count others : ℕ} {was after : List ℕ} (range : RangeOf o v low end but) (known : o ≤ 5)
@@ -123,50 +162,16 @@ module _ {o v low end but count others : ℕ} {was after : List ℕ} (range : Ra
   pub struck_whole : count ≤ but → Struck count (stands_to o v) others was after
   struck_whole l = struck_as (struck_both s (struck_none (λ x m. rw (ne_eqb x but (λ e. omega arith))))) at_gap
 
--- r isn't one of the roles below n that the value has
-unfoldable pub lacks_below : ℕ → ℕ → ℕ → Bool
-lacks_below v n r = not (ltb r n && in_set v r)
-
-module _ (v n : ℕ) where
-  -- a role other than n is below n + 1 where it is below n
-  further : (r : ℕ) → (r ≡ n → ⊥) → ltb r (n + 1) ≡ ltb r n
-  further r d =
-      ⊎_elim (λ t. let l = ltb-true r n t in lt-ltb r (n + 1) (omega arith) ∙ sym t)
-      (λ t. let l = ltb-false r n t in le-ltb r (n + 1) (omega (arith, d)) ∙ sym t) (met_or_not (ltb r n))
-
-  -- one role further, which the value has
-  pub struck_role : {others : ℕ} {was masks : List ℕ} → Struck 8 (lacks_below v n) others was masks → n < length masks
-      → in_set v n ≡ true
-      → Struck 8 (lacks_below v (n + 1)) others was (set masks n (bit_and (get_or masks n 0) others))
-  unfolding lacks_below
-  struck_role s l h = struck_as (struck_both s (struck_one n l)) (λ r m. by r)
-    where
-      by : (r : ℕ) → (not (ltb r n && in_set v r) && not (eqb r n)) ≡ not (ltb r (n + 1) && in_set v r)
-      by r = ⊎_elim
-          (λ t. let e : r ≡ n = eqb-true r n t in
-          rw (e, eq-eqb n n refl, h, lt-ltb n (n + 1) (omega arith)) (and-false (not (ltb n n && true))))
-          (λ t. rw (further r (eqb-false r n t)) (rw t (and-true (not (ltb r n && in_set v r)))))
-          (met_or_not (eqb r n))
-
-  -- or hasn't
-  pub struck_other : {others : ℕ} {was masks : List ℕ} → Struck 8 (lacks_below v n) others was masks →
-      in_set v n ≡ false
-      → Struck 8 (lacks_below v (n + 1)) others was masks
-  unfolding lacks_below
-  struck_other s h = struck_as s (λ r m. by r)
-    where
-      by : (r : ℕ) → not (ltb r n && in_set v r) ≡ not (ltb r (n + 1) && in_set v r)
-      by r = ⊎_elim
-          (λ t. let e : r ≡ n = eqb-true r n t in rw (e, h, and-false (ltb n n), and-false (ltb n (n + 1))))
-          (λ t. rw (further r (eqb-false r n t))) (met_or_not (eqb r n))
-
--- at first no role is looked at
-pub struck_roles_none : (v : ℕ) {others : ℕ} {was : List ℕ} → Struck 8 (lacks_below v 0) others was was
-unfolding lacks_below
-struck_roles_none v = struck_none (λ r l. rw (leb-suc-zero r))
-
--- at last each
-pub struck_roles : (v : ℕ) {others : ℕ} {was masks : List ℕ} → Struck 8 (lacks_below v 8) others was masks
-    → Struck 8 (lacks v) others was masks
-unfolding lacks_below lacks
-struck_roles v s = struck_as s (λ r l. rw (lt-ltb r 8 l))
+-- the roles' masks, each changed where the value has its role
+pub struck_roles : (v : ℕ) {others : ℕ} {was masks : List ℕ} → length was ≡ 8
+    → Changed (λ r mask. cond (in_set v r) (bit_and mask others) mask) 8 was masks → Struck 8 (lacks v) others was masks
+unfolding lacks
+struck_roles v {others} {was} {masks} e c = record {
+  size = c.size;
+  members = λ r b l. ap (λ y. in_set y b) (c.done r l) ∙ by (in_set v r) (get_or was r 0) b;
+}
+  where
+    by : (t : Bool) (mask b : ℕ)
+        → in_set (cond t (bit_and mask others) mask) b ≡ (in_set mask b && (not t || in_set others b))
+    by true mask b = in_and mask others b
+    by false mask b = sym (and-true (in_set mask b))

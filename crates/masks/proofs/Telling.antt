@@ -19,6 +19,7 @@ use Rattle.folds.proofs.Sets.{in_and, in_or, in_none, in_set_lem, in_set_below, 
 use Rattle.reader.specs.Tables.{clauses, record_count}
 use Rattle.reader.specs.Fields.{clause_permission}
 use Rattle.decision.specs.Conditions.{role_num, clause_holds, clause_of_holds, permission_holds}
+use Rattle.masks.specs.declared.asked.Asked.{Asked}
 use Rattle.masks.specs.Clauses.{clauses_of, Checked, met, Narrowed, NarrowedAll}
 use Rattle.masks.specs.Sets.{spared, role_fits, SetsFor}
 use Rattle.masks.specs.Rows.{Joined, RowFor}
@@ -53,9 +54,15 @@ done : {k : List ℕ} {own count a : ℕ} {masks : List ℕ} → Narrowed k own 
     → in_set (get_or masks x 0) b ≡ (in_set own b && met k b a x)
 done n x b l = n.members x b l ∙ rw (in_none b)
 
-module _ {k : List ℕ} {own count : ℕ} {entries sums numbers roles : List ℕ}
-    (all : NarrowedAll k own 0 count entries sums numbers roles) {w : List ℕ} {start end : ℕ} {sets : List ℕ}
-    (marked : SetsFor own numbers roles w start end sets) where
+module _ {k : List ℕ} {own count : ℕ} {asked : Asked} {sums : List ℕ}
+    (all : NarrowedAll k own 0 count asked sums) {w : List ℕ} {start end : ℕ} {sets : List ℕ}
+    (marked : SetsFor own asked.numbers asked.roles w start end sets) where
+  abbrev entries : List ℕ
+  entries = asked.entries
+
+  abbrev roles : List ℕ
+  roles = asked.roles
+
   -- for a set whose roles have weight, what a role is to be is that the clause's conditions on the set are met
   fits_role : (v b r : ℕ) → ((r : ℕ) → r < 8 → in_set v r ≡ true → 0 < get_or w r 0) → in_set own b ≡ true → r < 8
       → role_fits roles w start v b r ≡ (in_set (bit_or start v) r || met k b 3 r)
@@ -80,11 +87,11 @@ module _ {k : List ℕ} {own count : ℕ} {entries sums numbers roles : List ℕ
   in_sets v b l h =
       let set : ℕ = bit_or start v in
       let few : role_num set < 9 = let m = role_num_le set in omega arith in
-      let asked : ℕ → Bool = λ r. in_set set r || met k b 3 r in
+      let held : ℕ → Bool = λ r. in_set set r || met k b 3 r in
       marked.members v b l ∙ ap (λ (c : Bool). (in_set own b && all_below 8 (role_fits roles w start v b)) && c)
       (done all.numbers (role_num set) b few)
-      ∙ by (in_set own b) (all_below 8 (role_fits roles w start v b)) (all_below 8 asked) (met k b 2 (role_num set))
-      (λ o. all_same (role_fits roles w start v b) asked 8 (λ r m. fits_role v b r h o m))
+      ∙ by (in_set own b) (all_below 8 (role_fits roles w start v b)) (all_below 8 held) (met k b 2 (role_num set))
+      (λ o. all_same (role_fits roles w start v b) held 8 (λ r m. fits_role v b r h o m))
     where
       swap : (x y : Bool) → (x && y) ≡ (y && x)
       swap true true = refl
@@ -110,8 +117,8 @@ module _ {k : List ℕ} {own count : ℕ} {entries sums numbers roles : List ℕ
     abbrev set : ℕ
     set = bit_or start v
 
-    abbrev asked : ℕ → Bool
-    asked b = met k b 2 (role_num set) && all_below 8 (λ r. in_set set r || met k b 3 r)
+    abbrev by_roles : ℕ → Bool
+    by_roles b = met k b 2 (role_num set) && all_below 8 (λ r. in_set set r || met k b 3 r)
 
     by_number : (b : ℕ) → in_set (get_or entries number 0) b ≡ (in_set own b && met k b 0 number)
     by_number b = done all.entries number b (omega arith)
@@ -119,11 +126,11 @@ module _ {k : List ℕ} {own count : ℕ} {entries sums numbers roles : List ℕ
     by_sum : (b : ℕ) → in_set (get_or sums s 0) b ≡ (in_set own b && met k b 1 s)
     by_sum b = done all.sums s b (lt_of_lt_of_le high within)
 
-    by_set : (b : ℕ) → in_set (get_or sets v 0) b ≡ (in_set own b && asked b)
+    by_set : (b : ℕ) → in_set (get_or sets v 0) b ≡ (in_set own b && by_roles b)
     by_set b = in_sets v b below h
 
     holds : (b : ℕ) → in_set own b ≡ true → clause_holds k number s set b
-        ≡ ((met k b 0 number && met k b 1 s) && asked b)
+        ≡ ((met k b 0 number && met k b 1 s) && by_roles b)
     holds b o = clause_apart k b number s set t (in_set_below (record_count clauses k) own b small o)
 
     abbrev together : ℕ → Bool
@@ -139,16 +146,16 @@ module _ {k : List ℕ} {own count : ℕ} {entries sums numbers roles : List ℕ
         let o = and_left (in_set own b) (met k b 0 number) n in
         and_both o (holds b o ∙ and_both
         (and_both (and_right (in_set own b) (met k b 0 number) n) (and_right (in_set own b) (met k b 1 s) m))
-        (and_right (in_set own b) (asked b) q))
+        (and_right (in_set own b) (by_roles b) q))
 
     back : (b : ℕ) → (in_set own b && clause_holds k number s set b) ≡ true → together b ≡ true
     back b e =
         let o = and_left (in_set own b) (clause_holds k number s set b) e in
         let all_met = sym (holds b o) ∙ and_right (in_set own b) (clause_holds k number s set b) e in
-        let both = and_left (met k b 0 number && met k b 1 s) (asked b) all_met in
+        let both = and_left (met k b 0 number && met k b 1 s) (by_roles b) all_met in
         let n = by_number b ∙ and_both o (and_left (met k b 0 number) (met k b 1 s) both) in
         let m = by_sum b ∙ and_both o (and_right (met k b 0 number) (met k b 1 s) both) in
-        let q = by_set b ∙ and_both o (and_right (met k b 0 number && met k b 1 s) (asked b) all_met) in
+        let q = by_set b ∙ and_both o (and_right (met k b 0 number && met k b 1 s) (by_roles b) all_met) in
         and_both (and_both (r.high some s b low high n (j.has v b (omega arith) below q) m) m) q
 
     -- so they tell whether the permission's condition holds

@@ -7,6 +7,7 @@ use Rattle.reader.specs.Fields.{clause_permission, clause_length, condition_attr
 use Rattle.reader.specs.Fields.{condition_operator, condition_value}
 use Rattle.reader.specs.Rules.{clauses_bad}
 use Rattle.weights.specs.Operators.{meets}
+use Rattle.masks.specs.declared.asked.Asked.{Asked}
 
 -- the permission's clauses
 unfoldable pub clauses_of : List ℕ → ℕ → ℕ
@@ -69,19 +70,12 @@ pub record Struck (count : ℕ) (stays : ℕ → Bool) (others : ℕ) (was masks
       → in_set (get_or masks x 0) b ≡ (in_set (get_or was x 0) b && (stays x || in_set others b))
 
 -- the same of the masks of each attribute: the numbers of entries, the sums, the numbers of roles, and the roles
-pub record StruckAll (count : ℕ) (stays : ℕ → ℕ → Bool) (others : ℕ) (e₀ s₀ n₀ r₀ e s n r : List ℕ) : Type 0 where
-  pub entries : Struck 7 (stays 0) others e₀ e
+pub record StruckAll (count : ℕ) (stays : ℕ → ℕ → Bool) (others : ℕ) (was : Asked) (s₀ : List ℕ) (asked : Asked)
+    (s : List ℕ) : Type 0 where
+  pub entries : Struck 7 (stays 0) others was.entries asked.entries
   pub sums : Struck count (stays 1) others s₀ s
-  pub numbers : Struck 9 (stays 2) others n₀ n
-  pub roles : Struck 8 (stays 3) others r₀ r
-
--- the masks' numbers
-pub record Room (count : ℕ) (e s n r : List ℕ) : Type 0 where
-  pub entries : length e ≡ 7
-  pub sums : count ≤ length s
-  pub few : count ≤ 256
-  pub numbers : length n ≡ 9
-  pub roles : length r ≡ 8
+  pub numbers : Struck 9 (stays 2) others was.numbers asked.numbers
+  pub roles : Struck 8 (stays 3) others was.roles asked.roles
 
 -- a set of clauses without i
 pub record AllBut (own i others : ℕ) : Type 0 where
@@ -94,11 +88,11 @@ pub record Narrowed (k : List ℕ) (own rest count a : ℕ) (masks : List ℕ) :
       → in_set (get_or masks x 0) b ≡ (in_set own b && (in_set rest b || met k b a x))
 
 -- those of each attribute
-pub record NarrowedAll (k : List ℕ) (own rest count : ℕ) (e s n r : List ℕ) : Type 0 where
-  pub entries : Narrowed k own rest 7 0 e
+pub record NarrowedAll (k : List ℕ) (own rest count : ℕ) (asked : Asked) (s : List ℕ) : Type 0 where
+  pub entries : Narrowed k own rest 7 0 asked.entries
   pub sums : Narrowed k own rest count 1 s
-  pub numbers : Narrowed k own rest 9 2 n
-  pub roles : Narrowed k own rest 8 3 r
+  pub numbers : Narrowed k own rest 9 2 asked.numbers
+  pub roles : Narrowed k own rest 8 3 asked.roles
 
 -- the first `count` masks have the clauses `own`
 pub record Filled (count own : ℕ) (was masks : List ℕ) : Type 0 where

@@ -1,3 +1,4 @@
+pub mod Asked
 pub mod Clauses
 pub mod Masks
 pub mod Rows

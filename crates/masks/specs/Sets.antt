@@ -10,6 +10,11 @@ pub record RoleCounts (end : ℕ) (counts : List ℕ) : Type 0 where
   pub size : length counts ≡ 256
   pub each : (v : ℕ) → v < end → get_or counts v 0 ≡ role_num v
 
+-- of the clauses `own`, for each role those that a set without it can meet: all if it is in `start`
+pub record Without (own : ℕ) (roles : List ℕ) (start : ℕ) (without : List ℕ) : Type 0 where
+  pub size : length without ≡ 8
+  pub each : (r : ℕ) → r < 8 → get_or without r 0 ≡ cond (in_set start r) own (get_or roles r 0)
+
 -- a set without role r can meet clause b: r is in `start`, or the clause is one of those that don't ask for it
 unfoldable pub spared : List ℕ → ℕ → ℕ → ℕ → Bool
 unfolding in_set

@@ -4,6 +4,7 @@
 
 ghost use Rattle.masks.specs.Masks.{Ready, Masks};
 
+pub mod asked;
 pub mod clauses;
 mod rows;
 pub mod sets;
@@ -33,24 +34,22 @@ pub fn masks_for(
     weighed: Weighed,
     placed: Placed,
     counts: &[u8],
-    sums: &mut [u64],
-    sets: &mut [u64],
+    masks: &mut seek::Masks,
 ) -> [u64; 7]
-    requires { Ready k.now own weighed placed counts.now sums.old sets.old }
-    ensures { Masks k.now own w weighed placed sums.new sets.new result }
+    requires { Ready k.now own weighed placed counts.now masks.old.sums masks.old.sets }
+    ensures { Masks k.now own w weighed placed masks.new.sums masks.new.sets result }
 {
     let top = placed.sum + (6 - placed.count) * weighed.heavy;
-    let asked = clauses::clauses_met(k, own, top + 1, sums);
-    sets::sets_for(own, asked, w, placed.roles, weighed.end, counts, sets);
-    let reached = rows::joined(sets, 0, sets::sets_below(weighed.end));
-    let entries = asked.entries;
-    rows::rows_for(
-        &entries,
-        placed.count,
-        placed.sum,
-        weighed.light,
-        weighed.heavy,
-        reached,
-        sums,
-    )
+    let asked = clauses::clauses_met(k, own, &mut masks.sums[..top + 1]);
+    sets::sets_for(
+        own,
+        &asked,
+        w,
+        placed.roles,
+        weighed.end,
+        counts,
+        &mut masks.sets,
+    );
+    let reached = rows::joined(&masks.sets[..sets::sets_below(weighed.end)]);
+    rows::rows_for(&asked.entries, placed, weighed, reached, &masks.sums)
 }

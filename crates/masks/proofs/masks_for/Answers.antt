@@ -9,6 +9,6 @@ sets_for-requires c =
 
 pub returns : goal.returns
 returns c =
-    let (size, room, narrowed) = c.clauses_met-asked.ensures in
-    masks_made c.requires size narrowed c.sets_for.ensures c.sets_below.ensures.0 c.joined-reached.ensures
+    let (size, narrowed) = c.clauses_met-asked.ensures in
+    masks_made c.requires size narrowed c.sets_for.ensures c.sets_below.ensures c.joined-reached.ensures
     c.rows_for.ensures

@@ -1,6 +1,10 @@
 -- Each turn doubles one mask more.
-use Rattle.masks.proofs.SetMasks.{Doubling}
+use Rattle.std.proofs.Common.{◌≡◌, ◌<◌, ℕ, bit_and, get_or}
+use Rattle.masks.proofs.Chains.{Changed}
 use Rattle.masks.proofs.sets.add_role.Given as goal
 
 abbrev pub invariant-loop-v : goal.invariant-loop-v
-invariant-loop-v l = Doubling l.half l.without l.with l.v l.initial.sets l.sets
+invariant-loop-v l = record {
+  lower : Changed (λ v mask. bit_and mask l.without) l.v l.initial.low l.low;
+  upper : (v : ℕ) → v < l.v → get_or l.high v 0 ≡ bit_and (get_or l.initial.low v 0) l.with;
+}

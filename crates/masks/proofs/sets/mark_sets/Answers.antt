@@ -1,20 +1,26 @@
 use Rattle.std.proofs.Common.{◌≡◌, arith}
-use Rattle.masks.proofs.SetMasks.{half_is, weight_of, marked_none, marked_next, marked_all}
+use Rattle.masks.proofs.SetMasks.{half_is, with_weight, with_none, without_at, marked_none, marked_next, marked_all}
 use Rattle.masks.proofs.sets.mark_sets.Goals as goal
+use Rattle.masks.proofs.sets.mark_sets.Goals.{then-w-wide-gt0, else-w-wide-gt0}
 
 pub loop-r-init : goal.loop-r-init
-loop-r-init c =
-    marked_none c.args.own c.args.roles.now c.args.w c.args.start c.args.end c.args.sets.now c.requires.1
-    c.within_reach.ensures
+loop-r-init c = λ roles start h.
+    marked_none c.args.own roles c.args.w start c.args.end c.args.sets.now c.requires.1
+    (c.within_reach.ensures roles start h)
 
 pub loop-r-preserved : goal.loop-r-preserved
-loop-r-preserved c =
+loop-r-preserved c = λ roles start h.
     let twice = half_is c.sets_below.ensures.0 c.add_role.ensures in
-    let weighs = weight_of c.args.w c.args.own c.wide.ensures.0 c.choose-with.ensures in
-    marked_next c.args.own c.args.roles.now c.args.w c.args.start c.args.end c.loop-r.invariant twice
-    c.without_role.ensures weighs
+    let without = without_at h c.wide-in-loop-r.ensures.0 (omega arith) in
+    let so_far = c.loop-r.invariant roles start h in
+    elim c.if-w-wide-gt0.branch [
+      | then-w-wide-gt0 w ↦ marked_next c.args.own roles c.args.w start c.args.end so_far twice without
+          (with_weight c.args.w c.args.own c.wide.ensures.0 w.if-w-wide-gt0.true w.with-is)
+      | else-w-wide-gt0 w ↦ marked_next c.args.own roles c.args.w start c.args.end so_far twice without
+          (with_none c.args.w c.args.own c.wide.ensures.0 w.if-w-wide-gt0.false w.with-is)
+    ]
 
 pub returns : goal.returns
-returns c =
+returns c = λ roles start h.
     let e : c.loop-r.r ≡ c.args.end = omega arith in
-    marked_all c.args.own c.args.roles.now c.args.w c.args.start c.args.end c.requires.0 (rw e at c.loop-r.invariant)
+    marked_all c.args.own roles c.args.w start c.args.end c.requires.0 (rw e at (c.loop-r.invariant roles start h))

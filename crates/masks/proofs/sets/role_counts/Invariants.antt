@@ -1,6 +1,7 @@
 -- Each turn counts the roles of one set more.
-use Rattle.masks.specs.Sets.{RoleCounts}
+use Rattle.decision.specs.Conditions.{role_num}
+use Rattle.masks.proofs.Chains.{Changed}
 use Rattle.masks.proofs.sets.role_counts.Given as goal
 
 abbrev pub invariant-loop-v : goal.invariant-loop-v
-invariant-loop-v l = RoleCounts l.v l.counts
+invariant-loop-v l = Changed (λ v count. role_num v) l.v l.initial.count-items l.count-items

@@ -1,9 +1,9 @@
 -- Each turn strikes one clause more out.
 use Rattle.masks.proofs.Narrowing.{Turn}
-use Rattle.masks.proofs.clauses.strike_clauses.Given as goal
+use Rattle.masks.proofs.asked.Asked.strike_clauses.Given as goal
 
 abbrev pub invariant-loop-rest : goal.invariant-loop-rest
-invariant-loop-rest l = Turn l.k l.own l.count l.initial.sums l.rest l.entries l.sums l.numbers l.roles
+invariant-loop-rest l = Turn l.k l.own l.initial.sums l.rest l.self l.sums
 
 abbrev pub decreases-loop-rest : goal.decreases-loop-rest
 decreases-loop-rest l = l.rest

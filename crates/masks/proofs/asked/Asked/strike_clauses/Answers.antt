@@ -1,0 +1,9 @@
+use Rattle.std.proofs.Common.{arith}
+use Rattle.masks.proofs.Narrowing.{in_table}
+use Rattle.masks.proofs.asked.Asked.strike_clauses.Goals as goal
+
+pub strike_clause-requires : goal.strike_clause-requires
+strike_clause-requires c =
+    let turn = c.loop-rest.invariant in
+    let size = turn.size in
+    (c.requires.0, in_table turn c.requires.1 c.some_clause-i.ensures.1, omega arith)

@@ -1,0 +1,65 @@
+// What a permission's clauses ask of the number of entries, the number of roles and each role. Bit i is for clause i.
+ghost use Rattle.masks.specs.Asked.{Room};
+
+use crate::clauses::{all_but, some_clause, strike_roles, strike_unmet};
+
+// Inner: for each number of entries and each number of roles the clauses that it meets, and for each role those that
+// don't ask for it.
+#[derive(Clone, Copy)]
+pub struct Asked {
+    pub entries: [u64; 7],
+    pub numbers: [u64; 9],
+    pub roles: [u64; 8],
+    ghost room: { Room entries numbers roles },
+}
+
+impl Asked {
+    ghost use Rattle.std.specs.Prelude.{◌≡◌, ◌^◌, ◌≤◌, ◌<◌, length};
+    ghost use Rattle.reader.specs.Tables.{clauses, record_count};
+    ghost use Rattle.reader.specs.Fields.{clause_length};
+    ghost use Rattle.masks.specs.Clauses.{Checked, met_at, met, StruckAll, NarrowedAll};
+
+    // Leaves only `others` in the masks of what condition j of clause i is on, where it isn't met.
+    fn strike_condition(&mut self, sums: &mut [u64], k: &[u8], i: usize, j: usize, others: u64)
+        requires { Checked k.now × (i < record_count clauses k.now) × (j < clause_length k.now i)
+            × (length sums.old ≤ 256) }
+        ensures { StruckAll (length sums.old) (met_at k.now i j) others self.old sums.old self.new sums.new }
+    {
+        let at = 16 * i + 3 * j;
+        let operator = k[at + 3];
+        let value = k[at + 4];
+        match k[at + 2] {
+            0 => strike_unmet(&mut self.entries, operator, value, others),
+            1 => strike_unmet(sums, operator, value, others),
+            2 => strike_unmet(&mut self.numbers, operator, value, others),
+            _ => strike_roles(&mut self.roles, value, others),
+        }
+    }
+
+    // The same for all conditions of clause i.
+    fn strike_clause(&mut self, sums: &mut [u64], k: &[u8], i: usize, others: u64)
+        requires { Checked k.now × (i < record_count clauses k.now) × (length sums.old ≤ 256) }
+        ensures { StruckAll (length sums.old) (met k.now i) others self.old sums.old self.new sums.new }
+    {
+        // by number: the conditions stand in the record, not in a slice of their own
+        for j in 0..k[16 * i + 1] as usize {
+            self.strike_condition(sums, k, i, j, others);
+        }
+    }
+
+    // Strikes each clause of the set out of the masks of what it isn't met by.
+    pub(crate) fn strike_clauses(&mut self, sums: &mut [u64], k: &[u8], own: u64)
+        requires { Checked k.now × (own < 2 ^ record_count clauses k.now) × (length sums.old ≤ 256)
+            × NarrowedAll k.now own own (length sums.old) self.old sums.old }
+        ensures { (length sums.new ≡ length sums.old)
+            × NarrowedAll k.now own 0 (length sums.old) self.new sums.new }
+    {
+        // the library has no iterator over the bits of a number
+        let mut rest = own;
+        while rest != 0 {
+            let i = some_clause(rest);
+            self.strike_clause(sums, k, i, all_but(own, i));
+            rest = all_but(rest, i);
+        }
+    }
+}
