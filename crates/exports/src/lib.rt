@@ -130,7 +130,7 @@ pub extern "C" fn release_sheet_open(base: &[u8], permission: u32, sheet: &mut [
         }
         Err(unopened) => {
             *sheet = unopened.sheet.into();
-            unopened.refusal.number() as u32
+            u32::from(unopened.refusal.number())
         }
     }
 }
@@ -148,7 +148,7 @@ pub extern "C" fn release_sheet_sign(base: &[u8], user: u32, role: u32, sheet: &
             *sheet = signed.into();
             0
         }
-        Err(refusal) => refusal.number() as u32,
+        Err(refusal) => u32::from(refusal.number()),
     }
 }
 
@@ -165,7 +165,7 @@ pub extern "C" fn release_sheet_withdraw(user: u32, sheet: &mut [u8; 14]) -> u32
             *sheet = left.into();
             0
         }
-        Err(refusal) => refusal.number() as u32,
+        Err(refusal) => u32::from(refusal.number()),
     }
 }
 
@@ -209,7 +209,7 @@ fn number(given: Result<(), Refusal>) -> u32
 {
     match given {
         Ok(_) => 0,
-        Err(refusal) => refusal.number() as u32,
+        Err(refusal) => u32::from(refusal.number()),
     }
 }
 

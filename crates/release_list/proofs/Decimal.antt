@@ -1,16 +1,16 @@
 -- Numbers in decimal: one, two or three digits.
-use Prim.Native.Nat.{ℕ, ◌+◌, ◌/◌, ◌%◌, ◌<◌, ◌≤◌}
-use mathlib.Core.Path.{◌≡◌, refl, ap}
+use Prim.Native.Nat.{ℕ, ◌+◌, ◌-◌, ◌/◌, ◌%◌, ◌<◌, ◌≤◌}
+use mathlib.Core.Bool.{true, false}
+use mathlib.Core.Path.{◌≡◌, ap}
 use mathlib.Core.Logic.{⊎_elim}
 use mathlib.Core.List.{List, [], ◌∷◌}
 use native.Mathlib.Omega.{arith}
 use borrow.Author.Tests.{lt-ltb, le-ltb, ltb-true, ltb-false}
 use lib.Dec.{ltb}
-use lib.ListN.{length, set}
-use native.Mathlib.Numerals.{add-one, add-two}
+use lib.ListN.{length, take, drop}
+use mir.Val.{bool_byte}
 use Rattle.folds.proofs.Bools.{met_or_not}
 use Rattle.release_list.specs.Text.{digit, decimal}
-use Rattle.release_list.specs.Writing.{Written}
 
 pub one_digit : (n : ℕ) → n < 10 → decimal n ≡ digit n ∷ []
 unfolding decimal
@@ -39,16 +39,26 @@ three_length n =
     (λ t. let e = ap length (three_digits n (ltb-false n 100 t)) in omega arith)
     (met_or_not (ltb n 100))
 
-module _ (l : List ℕ) (at n : ℕ) where
-  -- the digits stored side by side
-  pub one_stored : n < 10 → Written (decimal n) l at (at + 1) (set l at (digit n))
-  one_stored h = rw (one_digit n h) (record { place = refl; bytes = refl })
+-- three digits but for the leading zeros, which are as many as of n < 10 and n < 100 hold
+module _ (n : ℕ) {a b : ℕ} (e : a ≡ bool_byte (ltb n 10)) (f : b ≡ bool_byte (ltb n 100)) where
+  abbrev left : List ℕ
+  left = take (3 - (a + b)) (drop (a + b) (digit (n / 100) ∷ digit (n / 10 % 10) ∷ digit (n % 10) ∷ []))
 
-  pub two_stored : 10 ≤ n → n < 100 →
-      Written (decimal n) l at (at + 2) (set (set l at (digit (n / 10))) (at + 1) (digit (n % 10)))
-  two_stored k h = rw (two_digits n k h, add-one) (record { place = refl; bytes = refl })
+  below_10 : ltb n 10 ≡ true → decimal n ≡ left
+  below_10 t =
+      let l = ltb-true n 10 t in
+      let same : n % 10 ≡ n = omega arith in
+      rw (one_digit n l, e, f, t, lt-ltb n 100 (omega arith), same)
 
-  pub three_stored : 100 ≤ n →
-      Written (decimal n) l at (at + 3)
-      (set (set (set l at (digit (n / 100))) (at + 1) (digit (n / 10 % 10))) (at + 2) (digit (n % 10)))
-  three_stored k = rw (three_digits n k, add-one, add-two) (record { place = refl; bytes = refl })
+  below_100 : ltb n 10 ≡ false → ltb n 100 ≡ true → decimal n ≡ left
+  below_100 t u =
+      let l = ltb-true n 100 u in
+      let same : n / 10 % 10 ≡ n / 10 = omega arith in
+      rw (two_digits n (ltb-false n 10 t) l, e, f, t, u, same)
+
+  above : ltb n 10 ≡ false → ltb n 100 ≡ false → decimal n ≡ left
+  above t u = rw (three_digits n (ltb-false n 100 u), e, f, t, u)
+
+  pub digits_left : decimal n ≡ left
+  digits_left =
+      ⊎_elim below_10 (λ t. ⊎_elim (below_100 t) (above t) (met_or_not (ltb n 100))) (met_or_not (ltb n 10))

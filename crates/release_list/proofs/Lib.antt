@@ -1,6 +1,7 @@
 pub mod Stores
 pub mod Decimal
 pub mod Sizes
+pub mod Entries
 pub mod Order
 pub mod Shown
 pub mod Answered

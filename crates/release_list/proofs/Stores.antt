@@ -1,23 +1,26 @@
 -- Texts written one behind the other.
-use Prim.Native.Nat.{ℕ, ◌+◌, ◌<◌, ◌≤◌, zero-le}
+use Prim.Native.Nat.{ℕ, ◌+◌, ◌-◌, ◌<◌, ◌≤◌, zero-le}
 use mathlib.Core.Path.{◌≡◌, refl, sym, ap, ◌∙◌}
-use mathlib.Core.List.{List, [], ◌∷◌, ◌++◌, append_assoc}
-use native.Mathlib.Numerals.{add-one}
-use native.Mathlib.Nat.{add-zero}
+use mathlib.Core.List.{List, ◌++◌, append_assoc}
+use native.Mathlib.Nat.{add-zero, add-sub_cancel_left}
 use native.Mathlib.Omega.{arith}
-use lib.ListN.{length, get_or, set, take, length-append}
-use lib.Seq.{sets, length-sets, take-suc, length-take-le}
+use lib.ListN.{length, length-append}
+use lib.Seq.{sets-eq, length-sets, drop-drop}
+use borrow.Rule.Slice.PartMut.{put_mid}
 use Rattle.folds.specs.Below.{join_below}
 use Rattle.folds.proofs.Lists.{join_none, join_more, join_length, sets-append}
 use Rattle.folds.proofs.Numbers.{sum_le_sum}
 use Rattle.release_list.specs.Text.{ascii, decimal, count_text, entry_text}
 use Rattle.release_list.specs.Writing.{Written}
 
--- one byte more of a list
-pub one_more : (l : List ℕ) (at : ℕ) (xs : List ℕ) (i : ℕ) → i < length xs →
-    set (sets l at (take i xs)) (at + i) (get_or xs i 0) ≡ sets l at (take (i + 1) xs)
-one_more l at xs i h =
-    rw (add-one, take-suc xs i 0, sets-append l at (take i xs) (get_or xs i 0 ∷ []), length-take-le i xs (omega arith))
+-- bytes copied into a list
+pub stored : (bytes l : List ℕ) (at : ℕ) {now : List ℕ} → now ≡ bytes → at + length bytes ≤ length l →
+    Written bytes l at (at + length bytes) (put_mid at (at + length bytes - at) l now)
+stored bytes l at e fits =
+    record {
+      place = refl;
+      bytes = rw (e, add-sub_cancel_left, drop-drop) (sym (sets-eq bytes l at fits ∙ append_assoc _ bytes _));
+    }
 
 module _ {xs ys l m k : List ℕ} {at next behind : ℕ} where
   -- a text behind another

@@ -9,12 +9,30 @@ use Rattle.reader.specs.Tables.{permission_count}
 use Rattle.weights.specs.declared.Context.{Context}
 use Rattle.report.specs.Report.{ShownFor}
 use Rattle.report.specs.Demand.{number_for, group_for}
+use Rattle.release_list.specs.declared.text.Page.{Page}
 use Rattle.release_list.specs.Text.{entry_at, line_text, refusal_for, report_text}
 
 -- the text is stored byte by byte in `out` from place `at` on, which makes it `after`; `next` is the place behind it
 pub record Written (text out : List ℕ) (at next : ℕ) (after : List ℕ) : Type 0 where
   pub place : next ≡ at + length text
   pub bytes : after ≡ sets out at text
+
+-- the text has room on the page, behind what stands there
+abbrev pub HasRoom : Page → List ℕ → Type 0
+HasRoom p text = p.len + length text ≤ length p.out.now
+
+-- the page holds no text, and has room for any report: 768 bytes
+abbrev pub IsBlank : Page → Type 0
+IsBlank p = (p.len ≡ 0) × (768 ≤ length p.out.now)
+
+-- both pages are of the same buffer
+abbrev pub SameBuffer : Page → Page → Type 0
+SameBuffer p q = q.out.ghost_name ≡ p.out.ghost_name
+
+-- the text is put on the page, behind what stands there
+pub record Put (text : List ℕ) (p q : Page) : Type 0 where
+  pub same : SameBuffer p q
+  pub written : Written text p.out.now p.len q.len q.out.now
 
 -- the entries of a group in the order in which they stand
 unfoldable pub standing_text : List ℕ → List ℕ

@@ -1,9 +1,9 @@
 // What the program prints.
 ghost use Rattle.std.specs.Prelude.{◌≡◌, ◌≤◌, length};
 ghost use Rattle.release_list.specs.Text.{context_of, Listed, WholeListed};
-ghost use Rattle.release_list.specs.Writing.{ReportListed};
+ghost use Rattle.release_list.specs.Writing.{IsBlank, SameBuffer, ReportListed};
 
-use crate::text;
+use crate::text::Page;
 use weights::Context;
 
 // The context in the first four bytes of the input: minute (2 bytes), day, zone (1 byte each).
@@ -12,37 +12,40 @@ fn context_of(input: &[u8]) -> Context
     ensures { result ≡ context_of input.now }
 {
     Context {
-        minute: reader::bytes::get16(input, 0) as u32,
-        day: input[2] as u32,
-        zone: input[3] as u32,
+        minute: u32::from(reader::bytes::get16(input, 0)),
+        day: u32::from(input[2]),
+        zone: u32::from(input[3]),
     }
 }
 
-// The report on a base as text; the text's length. 768 bytes hold sixteen lines of at most 47 bytes and a last one.
-fn put_report(out: &mut [u8], base: &[u8], at: Context) -> usize
-    requires { 768 ≤ length out.old }
-    ensures { ReportListed base.now at out.old out.new result }
+// The report on a base as text. 768 bytes hold sixteen lines of at most 47 bytes and a last one.
+fn put_report(page: &mut Page<'_>, base: &[u8], at: Context)
+    requires { IsBlank page.old }
+    ensures same { SameBuffer page.old page.new }
+    ensures text { ReportListed base.now at page.old.out.now page.new.out.now page.new.len }
 {
     // 13 bytes for each of 16 permissions
     let mut parts = [0u8; 208];
     match report::report(base, at, &mut parts) {
         Ok(count) => {
-            let next = text::put_lines(out, &parts, reader::trailer::permission_count(base));
-            text::put_count(out, next, b"releasable ", count as u8)
+            page.put_lines(&parts, reader::trailer::permission_count(base));
+            page.put_count(b"releasable ", count as u8);
         }
-        Err(refused) => text::put_count(out, 0, b"refused ", refused.refusal.number()),
+        Err(refused) => page.put_count(b"refused ", refused.refusal.number()),
     }
 }
 
-// The text for an input, in the first bytes of `out`; how many.
-fn put_listing(out: &mut [u8], input: &[u8]) -> usize
-    requires { 768 ≤ length out.old }
-    ensures { Listed input.now out.old out.new result }
+// The text for an input.
+fn put_listing(page: &mut Page<'_>, input: &[u8])
+    requires { IsBlank page.old }
+    ensures same { SameBuffer page.old page.new }
+    ensures text { Listed input.now page.old.out.now page.new.out.now page.new.len }
 {
     if input.len() < 4 {
-        return text::put_count(out, 0, b"refused ", 1);
+        page.put_count(b"refused ", 1);
+    } else {
+        put_report(page, &input[4..], context_of(input));
     }
-    put_report(out, &input[4..], context_of(input))
 }
 
 // Inner: all that the program prints, in the first bytes of `out`; how many. `input` is its buffer, of which `read`
@@ -51,5 +54,7 @@ pub fn listing(input: &[u8], read: usize, out: &mut [u8]) -> usize
     requires { (length input.now ≡ 2369) × (read ≤ 2369) × (768 ≤ length out.old) }
     ensures { WholeListed input.now read out.old out.new result }
 {
-    put_listing(out, &input[..read])
+    let mut page = Page { out, len: 0 };
+    put_listing(&mut page, &input[..read]);
+    page.len
 }

@@ -46,7 +46,7 @@ pub fn open(base: &[u8], permission: u32) -> Result<Sheet, Unopened>
     ensures { opening_outcome result ≡ opened base.now permission }
 {
     reader::check(base)?;
-    if reader::trailer::permission_count(base) as u32 <= permission {
+    if u32::from(reader::trailer::permission_count(base)) <= permission {
         return Err(Refusal::Permission.into());
     }
     Ok(Sheet::unsigned(permission as u8))

@@ -14,10 +14,16 @@ base_listed : (input : List ℕ) {at : Context} {out after : List ℕ} {n : ℕ}
 base_listed input is d = rw (is, take_all (length input - 4) (drop 4 input) (simp length-drop (omega arith))) at d
 
 pub put_count-requires : goal.put_count-requires
-put_count-requires c = omega (arith, c.requires, count_short (ascii "refused ") 1 (omega arith))
+put_count-requires c =
+    let (none, room) = c.requires in
+    omega (arith, none, room, count_short (ascii "refused ") 1 (omega arith))
 
-pub returns-then-input-lt4 : goal.returns-then-input-lt4
-returns-then-input-lt4 c = short_listed c.if-input-lt4.true c.requires c.put_count.ensures
+pub returns-then-input-lt4-clause-text : goal.returns-then-input-lt4-clause-text
+returns-then-input-lt4-clause-text c =
+    let (none, room) = c.requires in
+    let w = c.put_count.ensures.written in
+    short_listed c.if-input-lt4.true room (rw none at w)
 
-pub returns : goal.returns
-returns c = long_listed c.if-input-lt4.false (base_listed c.args.input.now c.context_of.ensures c.put_report.ensures)
+pub returns-else-input-lt4-clause-text : goal.returns-else-input-lt4-clause-text
+returns-else-input-lt4-clause-text c =
+    long_listed c.if-input-lt4.false (base_listed c.args.input.now c.context_of.ensures c.put_report.ensures.text)

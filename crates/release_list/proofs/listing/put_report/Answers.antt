@@ -1,30 +1,31 @@
 -- The lemmas of `Answered` make the text of the report's answer and parts.
-use Rattle.std.proofs.Common.{ℕ, ◌≡◌, ◌≤◌, List, length, arith, refl, sym, ◌∙◌}
+use Rattle.std.proofs.Common.{ℕ, ◌+◌, ◌≡◌, ◌≤◌, List, length, arith, refl, sym, ◌∙◌}
 use Rattle.reader.specs.declared.Answer.{Answer}
 use Rattle.reader.proofs.Results.{refusal_pos}
 use Rattle.reader.specs.Tables.{permission_count}
 use Rattle.release_list.specs.Text.{ascii}
 use Rattle.release_list.specs.Writing.{Written, Parts, lines_text}
 use Rattle.release_list.proofs.Answered.{count_short, Ready, report_ready, refused_listed, done_listed}
+use Rattle.release_list.proofs.Stores.{same_size}
 use Rattle.release_list.proofs.listing.put_report.Goals as goal
 
--- the lines for a number of parts that is that of the permissions
-module _ (b parts : List ℕ) {n : ℕ} (is : n ≡ permission_count b) where
+-- the lines for a number of parts that is that of the permissions, put on a page that held no text
+module _ (b parts : List ℕ) {n len : ℕ} (is : n ≡ permission_count b) (none : len ≡ 0) where
   lines_asked : {answer : Answer} {room : ℕ} → Ready b parts answer → 768 ≤ room →
-      Parts parts n × (length (lines_text parts n) ≤ room)
-  lines_asked ready l = rw is (ready.parts, omega (arith, ready.lines))
+      Parts parts n × (len + length (lines_text parts n) ≤ room)
+  lines_asked ready l = rw is (ready.parts, omega (arith, ready.lines, none))
 
-  lines_written : {out now : List ℕ} {next : ℕ} → Written (lines_text parts n) out 0 next now →
+  lines_written : {out now : List ℕ} {next : ℕ} → Written (lines_text parts n) out len next now →
       Written (lines_text parts (permission_count b)) out 0 next now
-  lines_written w = rw is at w
+  lines_written w = rw (is, none) at w
 
 pub permission_count-requires : goal.permission_count-requires
 permission_count-requires c = (report_ready _ _ _ _ _ refl c.in-Ok.ensures.promise refl (omega arith)).tables
 
-pub put_lines-next-requires : goal.put_lines-next-requires
-put_lines-next-requires c =
+pub put_lines-requires : goal.put_lines-requires
+put_lines-requires c =
     let ready = report_ready _ _ _ _ _ refl c.in-Ok.ensures.promise refl (omega arith) in
-    lines_asked c.args.base.now c.report.new.out c.permission_count.ensures ready c.requires
+    lines_asked c.args.base.now c.report.new.out c.permission_count.ensures c.requires.0 ready c.requires.1
 
 pub overflow_cast-count : goal.overflow_cast-count
 overflow_cast-count c =
@@ -34,20 +35,23 @@ overflow_cast-count c =
 pub put_count-requires : goal.put_count-requires
 put_count-requires c =
     let ready = report_ready _ _ _ _ _ refl c.in-Ok.ensures.promise refl (omega arith) in
-    let w = lines_written c.args.base.now c.report.new.out c.permission_count.ensures c.put_lines-next.ensures in
-    omega (arith, w.place, ready.lines, ready.last, c.requires)
+    let w = lines_written c.args.base.now c.report.new.out c.permission_count.ensures c.requires.0 c.put_lines.ensures.written in
+    omega (arith, w.place, ready.lines, ready.last, c.requires.1, same_size w)
 
-pub returns-in-Ok : goal.returns-in-Ok
-returns-in-Ok c =
-    let w = lines_written c.args.base.now c.report.new.out c.permission_count.ensures c.put_lines-next.ensures in
-    done_listed _ _ _ _ _ refl c.in-Ok.ensures.promise refl c.requires w c.put_count.ensures
+pub returns-in-Ok-clause-text : goal.returns-in-Ok-clause-text
+returns-in-Ok-clause-text c =
+    let w = lines_written c.args.base.now c.report.new.out c.permission_count.ensures c.requires.0 c.put_lines.ensures.written in
+    done_listed _ _ _ _ _ refl c.in-Ok.ensures.promise refl c.requires.1 w c.put_count.ensures.written
 
 pub put_count-requires-in-Err : goal.put_count-requires-in-Err
 put_count-requires-in-Err c =
-    omega (arith, c.requires, count_short (ascii "refused ") c.number.result (omega arith))
+    let (none, room) = c.requires in
+    omega (arith, none, room, count_short (ascii "refused ") c.number.result (omega arith))
 
-pub returns-in-Err : goal.returns-in-Err
-returns-in-Err c =
+pub returns-in-Err-clause-text : goal.returns-in-Err-clause-text
+returns-in-Err-clause-text c =
+    let (none, room) = c.requires in
     let answer = c.in-Err.ensures.promise in
+    let w = c.put_count-in-Err.ensures.written in
     refused_listed _ _ _ _ _ refl (rw (← c.number.ensures) at answer) (λ e. refusal_pos _ (sym c.number.ensures ∙ e))
-    c.requires c.put_count-in-Err.ensures
+    room (rw none at w)
