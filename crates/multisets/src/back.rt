@@ -11,9 +11,7 @@ pub fn group(ends: &[u8], from: &[u16], n: usize, x: usize) -> [u8; 12]
 {
     let mut out = [255u8; 12];
     let mut at = x;
-    let mut left = n;
-    while 0 < left {
-        left -= 1;
+    for left in (0..n).rev() {
         let entry = from[at];
         out[2 * left] = ends[at] - 1;
         out[2 * left + 1] = (entry % 8) as u8;

@@ -1,26 +1,18 @@
 // The least ends of groups, by the multiset of their roles.
 ghost use Rattle.std.specs.Prelude.{◌≡◌, ℕ, ◌+◌, ◌*◌, ◌≤◌, ◌<◌, length, get_or};
-ghost use Rattle.folds.specs.Sets.{in_set};
 ghost use Rattle.multisets.specs.Ends.{NextEnd, NextEnds, NextTable, Filled, Relaxed};
 ghost use Rattle.multisets.specs.Levels.{Pushing};
-
-// r is in the set s.
-fn in_set(s: u8, r: u8) -> bool
-    requires { r < 8 }
-    ensures { result ≡ in_set s r }
-{
-    (s >> r) % 2 == 1
-}
 
 // The end after the next user from `from` on who may act in the role, or 255; `later` is that from the user after.
 fn end_from(sets: [u8; 24], later: u8, from: usize, role: u8) -> u8
     requires { (length sets ≡ 24) × (from < 24) × (role < 8) }
     ensures { NextEnd sets (from + 1) role later → NextEnd sets from role result }
 {
-    if in_set(sets[from], role) {
-        return (from + 1) as u8;
+    if (sets[from] >> role) % 2 == 1 {
+        (from + 1) as u8
+    } else {
+        later
     }
-    later
 }
 
 // Inner: these ends, at 8 times a place and a role; users from `users` on may act in no role.
@@ -29,9 +21,7 @@ pub fn next_ends(sets: [u8; 24], users: usize) -> [u8; 200]
     ensures { NextEnds sets result × NextTable result }
 {
     let mut ends = [255u8; 200];
-    let count = 8 * users;
-    for i in 0..count {
-        let at = count - 1 - i;
+    for at in (0..8 * users).rev() {
         ends[at] = end_from(sets, ends[at + 8], at / 8, (at % 8) as u8);
     }
     ends

@@ -53,18 +53,10 @@ pub fn sum_level(d: usize, end: usize, n: usize, w: [u8; 8], placed: u8, t: &mut
     next_level(d, end, n - 1, t, |sum, r| sum + w[r]);
 }
 
-// The set of role r alone.
-fn role_bit(r: usize) -> u8
-    requires { r < 8 }
-    ensures { result ≡ 2 ^ r }
-{
-    1u8 << r
-}
-
 // Inner: the sets of the multisets of n + 1 roles, from those of n.
 pub fn join_level(d: usize, n: usize, t: &mut [u8])
     requires { (n ≤ 5) × (d ≤ 8) × Held d d set_at t.old (first d (suc n)) }
     ensures { Held d d set_at t.new (first d (suc (suc n))) }
 {
-    next_level(d, d, n, t, |set, r| set | role_bit(r));
+    next_level(d, d, n, t, |set, r| set | (1u8 << r));
 }

@@ -17,6 +17,3 @@ pub record Turn (ends from : List ℕ) (n x : ℕ) (out : List ℕ) (at left : �
 
 abbrev pub invariant-loop-left : goal.invariant-loop-left
 invariant-loop-left l = Turn l.ends l.from l.n l.x l.out l.at l.left
-
-abbrev pub decreases-loop-left : goal.decreases-loop-left
-decreases-loop-left l = l.left

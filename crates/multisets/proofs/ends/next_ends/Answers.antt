@@ -7,24 +7,20 @@ use Rattle.multisets.proofs.ends.next_ends.Invariants.{Turn}
 use Rattle.multisets.proofs.ends.next_ends.Goals as goal
 
 -- one end more, of plain values
-turn_more : {sets : List ℕ} {users i : ℕ} {ends : List ℕ} {end : ℕ} → length sets ≡ 24 → users ≤ 24 → i < 8 * users →
-    Turn sets users (8 * users) i ends →
-    (NextEnd sets ((8 * users - 1 - i) / 8 + 1) ((8 * users - 1 - i) % 8) (get_or ends (8 * users - 1 - i + 8) 0) →
-    NextEnd sets ((8 * users - 1 - i) / 8) ((8 * users - 1 - i) % 8) end) →
-    Turn sets users (8 * users) (i + 1) (set ends (8 * users - 1 - i) end)
-turn_more {sets} {users} {i} {ends} {end} all few l t step =
-    let at = 8 * users - 1 - i in
-    let more = ends_more sets all ends at end t.size (omega arith) in
-    let ends = more (λ f k a b p. t.end f k a b (omega arith)) step in
-    record {
-      is = refl;
+turn_more : {sets : List ℕ} {at : ℕ} {ends : List ℕ} {end : ℕ} → length sets ≡ 24 → 0 < at → at ≤ 192 →
+    Turn sets at ends →
+    (NextEnd sets ((at - 1) / 8 + 1) ((at - 1) % 8) (get_or ends (at - 1 + 8) 0) →
+    NextEnd sets ((at - 1) / 8) ((at - 1) % 8) end) →
+    Turn sets (at - 1) (set ends (at - 1) end)
+turn_more {sets} {at} {ends} {end} all some few t step =
+    let more = ends_more sets all ends (at - 1) end t.size (omega arith) in record {
       size = length-set _ _ _ ∙ t.size;
-      end = λ from r a k past. ends from r a k (omega arith);
+      end = more (λ f k a b p. t.end f k a b (omega arith)) step;
     }
 
-turn_end : {sets : List ℕ} {users i : ℕ} {ends : List ℕ} → length sets ≡ 24 → 8 * users ≤ i →
-    Turn sets users (8 * users) i ends → NextEnds sets ends × NextTable ends
-turn_end {sets} {users} {i} {ends} all l t =
+turn_end : {sets : List ℕ} {at : ℕ} {ends : List ℕ} → length sets ≡ 24 → at ≤ 0 → Turn sets at ends →
+    NextEnds sets ends × NextTable ends
+turn_end {sets} {at} {ends} all last t =
     let n : NextEnds sets ends = record {
       users = all;
       size = t.size;
@@ -32,15 +28,15 @@ turn_end {sets} {users} {i} {ends} all l t =
     } in
     (n, next_table _ _ n)
 
-pub loop-i-init : goal.loop-i-init
-loop-i-init c =
+pub loop-at-init : goal.loop-at-init
+loop-at-init c =
     let p = c.requires in
-    let start = ends_start c.args.sets p.0 c.args.users p.1 p.2 in
-    record { is = refl; size = refl; end = λ from r a b past. start from r a b (omega arith) }
+    record { size = refl; end = ends_start c.args.sets p.0 c.args.users p.1 p.2 }
 
-pub loop-i-preserved : goal.loop-i-preserved
-loop-i-preserved c =
-    turn_more c.requires.0 c.requires.1 c.loop-i-test.true c.loop-i.invariant c.end_from.ensures
+pub loop-at-preserved : goal.loop-at-preserved
+loop-at-preserved c =
+    let few : c.loop-at.at ≤ 192 = omega arith in
+    turn_more c.requires.0 c.loop-at-test.true few c.loop-at.invariant c.end_from.ensures
 
 pub returns : goal.returns
-returns c = turn_end c.requires.0 c.loop-i-test.false c.loop-i.invariant
+returns c = turn_end c.requires.0 c.loop-at-test.false c.loop-at.invariant
