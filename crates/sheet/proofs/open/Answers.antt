@@ -36,13 +36,13 @@ returns-in_err-check c =
 pub permission_count-requires : goal.permission_count-requires
 permission_count-requires c = accepted_frame _ (sym c.in_ok-check.ensures)
 
-pub returns-then-permission_count-permission : goal.returns-then-permission_count-permission
-returns-then-permission_count-permission c =
+pub returns-then-from-permission : goal.returns-then-from-permission
+returns-then-from-permission c =
     unopened_with Permission (Err _) c.into.ensures
-    ∙ by_permission _ _ (sym c.in_ok-check.ensures) c.permission_count.ensures
-    c.if-permission_count-permission.true refl
+    ∙ by_permission _ _ (sym c.in_ok-check.ensures) (c.from.ensures ∙ c.permission_count.ensures)
+    c.if-from-permission.true refl
 
 pub returns : goal.returns
 returns c =
-    done _ _ (sym c.in_ok-check.ensures) c.permission_count.ensures
-    c.if-permission_count-permission.false c.unsigned.ensures
+    done _ _ (sym c.in_ok-check.ensures) (c.from.ensures ∙ c.permission_count.ensures)
+    c.if-from-permission.false c.unsigned.ensures
