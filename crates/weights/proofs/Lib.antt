@@ -1,5 +1,6 @@
 pub mod Agree
 pub mod Chains
+pub mod Folding
 pub mod Foremost
 pub mod Choice
 pub mod Resolving

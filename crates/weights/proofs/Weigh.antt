@@ -160,6 +160,15 @@ placed_light {v = v} at le i l =
     let h : get_or v (8 * (i / 8) + i % 8) 0 ≤ 5 = rw (at.place (i % 8) (i / 8) (omega arith) (omega arith)) (le _ _) in
     rw e at h
 
+-- the weights of the policies that count in a table that passed the check
+pub light_chosen : {rules : List ℕ} {s : ℕ} {a owns inhs : List ℕ} → policies_bad 8 16 a ≡ false →
+    AreChosen rules s a (record_count policies a) owns inhs → Light owns × Light inhs
+light_chosen {rules} {s} {a} fine are = (placed_light are.any (five any_type), placed_light are.one (five type_one))
+  where
+    five : (f : ℕ → Bool) (r p : ℕ) → chosen_weight rules (in_force_by s) f a (record_count policies a) r p ≤ 5
+    five f r p =
+        chosen_le rules (in_force_by s) f a r p 5 _ (λ i l. (policy_fine 8 16 a i fine l).weight_le)
+
 -- the pass over A gives what the base has
 module _ (b : List ℕ) (ok : refusal_of b ≡ 0) (s : Fixed) (fixed : FixedBy b s) where
   abbrev a : List ℕ

@@ -16,13 +16,13 @@ pub fn acting_roles(base: &[u8], juniors: [u8; 8], user: usize) -> u8
 {
     let users = reader::trailer::part(base, reader::Table::Users);
     let roles = reader::trailer::role_count(base);
-    let mut set: u8 = 0;
-    for s in 0..8u8 {
+    (0..8u8).fold(0, |set, s| {
         if reader::codes::held_by(users, roles, user, s as usize) {
-            set = set | seniority::with_juniors(s, juniors);
+            set | seniority::with_juniors(s, juniors)
+        } else {
+            set
         }
-    }
-    set
+    })
 }
 
 // Inner: the user may act in the role; neither need be there.
@@ -30,8 +30,5 @@ pub fn may_act(base: &[u8], juniors: [u8; 8], user: usize, role: usize) -> bool
     requires { (refusal_of base.now ≡ 0) × Juniors (table_of base.now hierarchy) juniors }
     ensures { result ≡ may_act base.now user role }
 {
-    if 8 <= role {
-        return false;
-    }
-    sets::in_set(acting_roles(base, juniors, user) as u32, role as u8)
+    role < 8 && sets::in_set(acting_roles(base, juniors, user) as u32, role as u8)
 }

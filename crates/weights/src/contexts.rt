@@ -9,28 +9,22 @@ use crate::{Context, operators, sets};
 use reader::bytes;
 
 // Inner: refusal 11.
+#[tactic(auto, unfolding(crate::specs::Contexts::out_of_range))]
 pub fn out_of_range(at: Context) -> bool
     ensures { result ≡ out_of_range at }
 {
-    if 1440 <= at.minute {
-        return true;
-    }
-    if 7 <= at.day {
-        return true;
-    }
-    256 <= at.zone
+    (1440 <= at.minute) | (7 <= at.day) | (256 <= at.zone)
 }
 
+#[tactic(auto, unfolding(crate::specs::Contexts::value_of))]
 fn value_of(at: Context, parameter: u8) -> u32
     ensures { result ≡ value_of at parameter }
 {
-    if parameter == 0 {
-        return at.minute;
+    match parameter {
+        0 => at.minute,
+        1 => at.day,
+        _ => at.zone,
     }
-    if parameter == 1 {
-        return at.day;
-    }
-    at.zone
 }
 
 // Condition j of clause i.
@@ -47,13 +41,7 @@ fn clause_holds(c: &[u8], i: usize, at: Context) -> bool
     requires { (16 * i + 16 ≤ length c.now) × (context_length c.now i ≤ 3) }
     ensures { result ≡ context_clause_holds at c.now i }
 {
-    let n = c[16 * i + 1];
-    for j in 0..n as usize {
-        if !condition_holds(c, i, j, at) {
-            return false;
-        }
-    }
-    true
+    (0..c[16 * i + 1] as usize).all(|j| condition_holds(c, i, j, at))
 }
 
 // Inner: the set of the context numbers that hold, by a table C that passed the check.
@@ -61,11 +49,12 @@ pub fn holding(c: &[u8], at: Context) -> u32
     requires { contexts_bad c.now ≡ false }
     ensures { Holding at c.now result }
 {
-    let mut s: u32 = 0;
-    for i in 0..c.len() / 16 {
-        if clause_holds(c, i, at) {
-            s = s | sets::bit(c[16 * i]);
-        }
-    }
-    s
+    (0..c.len() / 16).fold(
+        0,
+        |s, i| if clause_holds(c, i, at) {
+            s | sets::bit(c[16 * i])
+        } else {
+            s
+        },
+    )
 }

@@ -9,10 +9,7 @@ fn share(set: u8, j: u8, x: u8) -> u8
     requires { j < 8 }
     ensures { (result ≡ given set j x) × (result ≤ x) }
 {
-    if sets::in_set(set as u32, j) {
-        return x;
-    }
-    0
+    if sets::in_set(set as u32, j) { x } else { 0 }
 }
 
 // Inner: junior j hands on x to each role that is its senior.
@@ -33,9 +30,8 @@ pub fn own_weights(own: &[u8; 128], permission: u8) -> [u8; 8]
     requires { permission < 16 }
     ensures { (length result ≡ 8) × ((r : ℕ) → r < 8 → get_or result r 0 ≡ get_or own.now (8 * permission + r) 0) }
 {
+    let at = policies::place_of(permission, 0);
     let mut w = [0u8; 8];
-    for r in 0..8u8 {
-        w[r as usize] = own[policies::place_of(permission, r)];
-    }
+    w.copy_from_slice(&own[at..at + 8]);
     w
 }

@@ -2,19 +2,21 @@
 // in a role.
 #![tactic(auto)]
 
-ghost use Rattle.std.specs.Prelude.{◌≡◌, List, [], ℕ, ◌<◌, ◌≤◌, length};
+ghost use Rattle.std.specs.Prelude.{◌≡◌, [], ◌≤◌, length};
 ghost use Rattle.reader.specs.Tables.{hierarchy, table_of};
 ghost use Rattle.reader.specs.Rules.{refusal_of};
-ghost use Rattle.weights.specs.declared.Context.{Context};
-ghost use Rattle.weights.specs.Setting.{Juniors, rules_of, FixedBy, Vacant, Light, ChosenBy, AreWeights};
+ghost use Rattle.weights.specs.Setting.{Juniors, rules_of, FixedBy, ChosenBy};
 
 pub mod acting;
+pub mod chosen;
 pub mod contexts;
 mod inherited;
 pub mod operators;
 mod policies;
 pub mod seniority;
 pub mod sets;
+
+pub use chosen::Chosen;
 
 // A context: parameters 0, 1 and 2 are the minute, the day and the zone.
 #[derive(Clone, Copy)]
@@ -77,38 +79,12 @@ pub fn setting_by(base: &[u8], at: Context, list: &[u8]) -> Fixed
 }
 
 // Inner: for each role and permission of an accepted base, of which s is a setting, the weight of the policy that
-// counts by the rules of s, or 0: of any type (own), and of type 1 (inh); at 8 times the permission and the role. The
-// arrays lent hold zeros.
-pub fn choose(base: &[u8], s: Fixed, own: &mut [u8; 128], inh: &mut [u8; 128])
-    requires { (refusal_of base.now ≡ 0) × FixedBy base.now s × Vacant own.old × Vacant inh.old }
-    ensures { ChosenBy (rules_of s) base.now s.at own.new inh.new }
+// counts by the rules of s, or 0.
+pub fn choose(base: &[u8], s: Fixed) -> Chosen
+    requires { (refusal_of base.now ≡ 0) × FixedBy base.now s }
+    ensures { ChosenBy (rules_of s) base.now s.at result.own result.inh }
 {
-    let contexts = s.contexts;
     let a = reader::trailer::part(base, reader::Table::Policies);
-    let listed = s.listed;
-    if listed == 0 {
-        policies::choose_first(a, contexts, own, inh);
-        return;
-    }
     let rules = s.rules;
-    policies::choose_by(a, contexts, &rules[0..listed], own, inh);
-}
-
-// Inner: the weights of all roles for one permission, by the chosen weights and the juniors of an accepted base.
-pub fn role_weights<'a>(
-    own: &'a [u8; 128],
-    inh: &'a [u8; 128],
-    juniors: [u8; 8],
-    permission: u8,
-) -> [u8; 8]
-    requires { Light own.now × Light inh.now × (permission < 16) }
-    ensures { (rules b : List ℕ) (at : Context) → refusal_of b ≡ 0 →
-        ChosenBy rules b at own.now inh.now → Juniors (table_of b hierarchy) juniors →
-        AreWeights rules b at permission result }
-{
-    let mut w = inherited::own_weights(own, permission);
-    for j in 0..8u8 {
-        inherited::hand_on(&mut w, juniors, j, inh[policies::place_of(permission, j)]);
-    }
-    w
+    policies::choose(a, s.contexts, &rules[0..s.listed])
 }

@@ -21,14 +21,14 @@ fn juniors_of(h: &[u8], s: u8, known: [u8; 8]) -> u8
     requires { hierarchy_bad 8 h.now ≡ false }
     ensures { (j : ℕ) → in_set result j ≡ any_below (length h.now / 2) (next_junior h.now known s j) }
 {
-    let mut set: u8 = 0;
-    for i in 0..h.len() / 2 {
-        let at = 2 * i;
-        if h[at] == s {
-            set = set | with_juniors(h[at + 1], known);
-        }
-    }
-    set
+    (0..h.len() / 2).fold(
+        0,
+        |set, i| if h[2 * i] == s {
+            set | with_juniors(h[2 * i + 1], known)
+        } else {
+            set
+        },
+    )
 }
 
 // Inner: the juniors of each role, by a table H that passed the check; a senior's number is smaller, so the highest
@@ -38,8 +38,7 @@ pub fn juniors(h: &[u8]) -> [u8; 8]
     ensures { Juniors h.now result }
 {
     let mut known = [0u8; 8];
-    for k in 0..8usize {
-        let s = 7 - k;
+    for s in (0..8usize).rev() {
         known[s] = juniors_of(h, s as u8, known);
     }
     known

@@ -1,5 +1,5 @@
 -- The table read is the base's, and the pass over it gives what the base has.
-use Rattle.std.proofs.Common.{◌≡◌, ℕ, ◌-◌, ◌≤◌, ◌/◌, List, [], length, take, false, arith}
+use Rattle.std.proofs.Common.{◌≡◌, ℕ, ◌-◌, ◌≤◌, ◌/◌, List, length, take, false, arith}
 use Rattle.reader.specs.Tables.{policies, table_of}
 use Rattle.reader.specs.Rules.{policies_bad, refusal_of}
 use Rattle.reader.proofs.Accepted.{accepted}
@@ -20,10 +20,6 @@ module _ {b t : List ℕ} {s : Fixed} (ok : refusal_of b ≡ 0) (fixed : FixedBy
       AreChosen rules s.contexts t (length t / 8) owns inhs → ChosenBy (rules_of s) b s.at owns inhs
   by_rules {rules} same are = rw same at (chosen_by b ok s fixed rules (rw is at are))
 
--- no rule is listed
-unlisted : {n : ℕ} (rules : List ℕ) → n ≡ 0 → [] ≡ take n rules
-unlisted rules e = rw e
-
 -- the part from the front on
 all_listed : (n : ℕ) (rules : List ℕ) → take (n - 0) rules ≡ take n rules
 all_listed n rules = let e : n - 0 ≡ n = omega arith in rw e
@@ -31,22 +27,12 @@ all_listed n rules = let e : n - 0 ≡ n = omega arith in rw e
 pub part-a-requires : goal.part-a-requires
 part-a-requires c = (accepted _ c.requires.0).frame
 
-pub choose_first-requires : goal.choose_first-requires
-choose_first-requires c =
-    let (ok, fixed, own, inh) = c.requires in
-    (passed ok fixed c.part-a.ensures, own, inh)
-
-pub returns-then-listed-eq0 : goal.returns-then-listed-eq0
-returns-then-listed-eq0 c =
-    by_rules c.requires.0 c.requires.1 c.part-a.ensures (unlisted c.args.s.rules c.if-listed-eq0.true)
-    c.choose_first.ensures
-
-pub choose_by-requires : goal.choose_by-requires
-choose_by-requires c =
-    let (ok, fixed, own, inh) = c.requires in
-    (passed ok fixed c.part-a.ensures, short ok fixed c.part-a.ensures, own, inh)
+pub choose-requires : goal.choose-requires
+choose-requires c =
+    let (ok, fixed) = c.requires in
+    (passed ok fixed c.part-a.ensures, short ok fixed c.part-a.ensures)
 
 pub returns : goal.returns
 returns c =
     by_rules c.requires.0 c.requires.1 c.part-a.ensures (all_listed c.args.s.listed c.args.s.rules)
-    c.choose_by.ensures
+    c.choose.ensures

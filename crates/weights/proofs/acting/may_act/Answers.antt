@@ -1,4 +1,5 @@
 -- The role is in the set of those in which the user may act.
+use borrow.Author.Tests.{le-ltb}
 use Rattle.std.proofs.Common.{◌≡◌, ℕ, Bool, List, sym, ap, ◌∙◌}
 use Rattle.folds.specs.Sets.{in_set, set_below}
 use Rattle.reader.specs.Rules.{refusal_of}
@@ -10,8 +11,9 @@ in_acting : (b : List ℕ) → refusal_of b ≡ 0 → (u r : ℕ) {set : ℕ} {m
     may ≡ in_set set r → may ≡ may_act b u r
 in_acting b ok u r set_is is = is ∙ ap (λ (s : ℕ). in_set s r) set_is ∙ acting_in b ok u r
 
-pub returns-then-role-ge8 : goal.returns-then-role-ge8
-returns-then-role-ge8 c = sym (acting_past _ c.requires.0 _ _ c.if-role-ge8.true)
+pub returns-else-role-lt8 : goal.returns-else-role-lt8
+returns-else-role-lt8 c =
+    le-ltb _ _ c.if-role-lt8.false ∙ sym (acting_past _ c.requires.0 _ _ c.if-role-lt8.false)
 
-pub returns : goal.returns
-returns c = in_acting _ c.requires.0 _ _ c.acting_roles.ensures c.in_set.ensures
+pub returns-then-role-lt8 : goal.returns-then-role-lt8
+returns-then-role-lt8 c = in_acting _ c.requires.0 _ _ c.acting_roles.ensures c.in_set.ensures

@@ -7,11 +7,12 @@ use Rattle.reader.specs.Rules.{policies_bad}
 use Rattle.reader.proofs.Accepted.{PolicyFine, policy_fine}
 use Rattle.weights.specs.Weights.{any_type, type_one}
 use Rattle.weights.specs.Setting.{in_force_by, taken_up, AreChosen}
-use Rattle.weights.proofs.Choice.{off_context, off_type}
+use Rattle.weights.proofs.Choice.{vacant, off_context, off_type}
 use Rattle.weights.proofs.Resolving.{Keeps, keeps_none, keeps_same, keeps_more, keeps_placed, kept_below}
-use Rattle.weights.proofs.policies.choose_by.Goals as goal
-use Rattle.weights.proofs.policies.choose_by.Goals.{then-in_force+then-a-at-eq1, then-in_force+else-a-at-eq1}
-use Rattle.weights.proofs.policies.choose_by.Goals.{else-in_force}
+use Rattle.weights.proofs.Weigh.{light_chosen}
+use Rattle.weights.proofs.policies.choose.Goals as goal
+use Rattle.weights.proofs.policies.choose.Goals.{then-in_force+then-a-at-eq1, then-in_force+else-a-at-eq1}
+use Rattle.weights.proofs.policies.choose.Goals.{else-in_force}
 
 -- what is kept of the first i policies, of any type and of type 1
 record Turn (rules : List ℕ) (s : ℕ) (a own_kept inh_kept own inh : List ℕ) (i : ℕ) : Type 0 where
@@ -81,11 +82,7 @@ counted turn = record { any = keeps_placed _ _ _ _ turn.any; one = keeps_placed 
 
 pub loop-i-init : goal.loop-i-init
 loop-i-init c =
-    let (_, _, own, inh) = c.requires in
-    record {
-      any = keeps_none _ _ _ _ refl own.size own.zero;
-      one = keeps_none _ _ _ _ refl inh.size inh.zero;
-    }
+    record { any = keeps_none _ _ _ _ refl refl vacant.zero; one = keeps_none _ _ _ _ refl refl vacant.zero }
 
 pub in_force-requires : goal.in_force-requires
 in_force-requires c = (policy_fine 8 16 c.args.a.now c.loop-i.i c.requires.0 c.loop-i-test.true).context
@@ -111,8 +108,10 @@ loop-i-preserved c =
     let ok = c.requires.0 in
     let l = c.loop-i-test.true in
     let test = sym c.in_force.ensures in
-    let turn : Turn c.args.list.now c.args.contexts c.args.a.now c.loop-i.own_kept c.loop-i.inh_kept c.loop-i.own
-    c.loop-i.inh c.loop-i.i = record { any = h.any; one = h.one } in
+    let any = c.loop-i.any in
+    let one = c.loop-i.one in
+    let turn : Turn c.args.list.now c.args.contexts c.args.a.now any.policy one.policy any.weight one.weight c.loop-i.i =
+    record { any = h.any; one = h.one } in
     elim c.if-in_force.branch [
       | then-in_force+then-a-at-eq1 w ↦
           let (is, small) = w.place_of-place.ensures in
@@ -120,16 +119,22 @@ loop-i-preserved c =
           let inh = w.take_up-then-a-at-eq1.ensures in
           let next = taken_both turn ok l (test ∙ w.if-in_force.true) is small own.0 own.1 w.if-a-at-eq1.true inh.0
           inh.1 in
-          rw (w.own_kept-is, w.inh_kept-is, w.own-is, w.inh-is) (record { any = next.any; one = next.one })
+          rw (w.any-is, w.one-is) (record { any = next.any; one = next.one })
       | then-in_force+else-a-at-eq1 w ↦
           let (is, small) = w.place_of-place.ensures in
           let own = w.take_up.ensures in
           let next = taken turn ok l (test ∙ w.if-in_force.true) is small own.0 own.1 w.if-a-at-eq1.false in
-          rw (w.own_kept-is, w.inh_kept-is, w.own-is, w.inh-is) (record { any = next.any; one = next.one })
+          rw (w.any-is, w.one-is) (record { any = next.any; one = next.one })
       | else-in_force w ↦
           let next = skipped turn ok l (test ∙ w.if-in_force.false) in
-          rw (w.own_kept-is, w.inh_kept-is, w.own-is, w.inh-is) (record { any = next.any; one = next.one })
+          rw (w.any-is, w.one-is) (record { any = next.any; one = next.one })
     ]
+
+pub invariant_of-result : goal.invariant_of-result
+invariant_of-result c =
+    let end : c.loop-i.i ≡ length c.args.a.now / 8 = omega arith in
+    let h = c.loop-i.invariant in
+    record { light = light_chosen c.requires.0 (rw end at (counted (record { any = h.any; one = h.one }))) }
 
 pub returns : goal.returns
 returns c =

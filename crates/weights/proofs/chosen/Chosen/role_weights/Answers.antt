@@ -7,7 +7,7 @@ use Rattle.folds.specs.Sets.{in_set}
 use Rattle.folds.proofs.Numbers.{sum_none, sum_more, sum_le}
 use Rattle.weights.specs.Setting.{Light, given, HandedOn, Summed}
 use Rattle.weights.proofs.Weigh.{given_le, weigh}
-use Rattle.weights.proofs.role_weights.Goals as goal
+use Rattle.weights.proofs.chosen.Chosen.role_weights.Goals as goal
 
 -- what a role's junior j gives it
 abbrev share : List ℕ → List ℕ → ℕ → ℕ → ℕ → ℕ
@@ -52,16 +52,17 @@ loop-j-init c =
 
 pub hand_on-requires : goal.hand_on-requires
 hand_on-requires c =
-    let (own_light, inh_light, small) = c.requires in
+    let (own_light, inh_light) = c.args.self.now.light in
     let sum = c.loop-j.invariant in
     let l : c.loop-j.j < 8 = omega arith in
-    (sum.size, l, room sum l small (at_place c.args.inh.now c.place_of.ensures.0) own_light inh_light)
+    (sum.size, l, room sum l c.requires (at_place c.args.self.now.inh c.place_of.ensures.0) own_light inh_light)
 
 pub loop-j-preserved : goal.loop-j-preserved
 loop-j-preserved c =
-    again c.loop-j.invariant (omega arith) c.requires.2 (at_place c.args.inh.now c.place_of.ensures.0) c.hand_on.ensures
+    again c.loop-j.invariant (omega arith) c.requires (at_place c.args.self.now.inh c.place_of.ensures.0)
+    c.hand_on.ensures
 
 pub returns : goal.returns
 returns c rules b at ok chosen below =
     let end : c.loop-j.j ≡ 8 = omega arith in
-    weigh rules b at ok c.args.permission c.requires.2 chosen below (rw end at c.loop-j.invariant)
+    weigh rules b at ok c.args.permission c.requires chosen below (rw end at c.loop-j.invariant)

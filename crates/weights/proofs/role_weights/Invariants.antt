@@ -1,6 +1,0 @@
--- The juniors below j have handed on.
-use Rattle.weights.specs.Setting.{Summed}
-use Rattle.weights.proofs.role_weights.Given as goal
-
-abbrev pub invariant-loop-j : goal.invariant-loop-j
-invariant-loop-j l = Summed l.own l.inh l.juniors l.permission l.j l.w
