@@ -4,3 +4,4 @@ pub mod Standing
 pub mod Values
 pub mod Ends
 pub mod Levels
+pub mod Laid

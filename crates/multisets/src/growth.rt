@@ -1,6 +1,6 @@
 // One role more: from the multisets of n roles to those of n + 1.
 ghost use Rattle.std.specs.Prelude.{◌≡◌, ℕ, suc, ◌+◌, ◌*◌, ◌≤◌, ◌<◌, length, get_or};
-ghost use Rattle.multisets.specs.Ranks.{starts, first, Starts};
+ghost use Rattle.multisets.specs.Ranks.{starts, first};
 ghost use Rattle.multisets.specs.Ends.{NextTable};
 ghost use Rattle.multisets.specs.Values.{Written};
 ghost use Rattle.multisets.specs.Levels.{Fixed, Kept, Grown};
@@ -20,14 +20,14 @@ fn fixed_step(low: usize, high: usize, q: usize, r: usize) -> u16
 }
 
 // How far multisets of n + 1 roles whose largest is r lie behind with each role more, as far as r and the role tell.
-fn fixed_steps(s: &[usize], n: usize, r: usize) -> [u16; 8]
-    requires { (n ≤ 4) × (r < 8) × Starts s.now }
+fn fixed_steps(n: usize, r: usize) -> [u16; 8]
+    requires { (n ≤ 4) × (r < 8) }
     ensures { Fixed n r result }
 {
-    let low = start_in(s, n + 2, r) - start_in(s, n + 1, r);
+    let low = start_in(n + 2, r) - start_in(n + 1, r);
     let mut a = [0u16; 8];
     for q in 0..8usize {
-        a[q] = fixed_step(low, start_in(s, n + 2, q), q, r);
+        a[q] = fixed_step(low, start_in(n + 2, q), q, r);
     }
     a
 }
@@ -82,7 +82,6 @@ fn keep_row(t: &mut [u16], n: usize, at: usize, up: &[u16])
 
 // Multisets of n + 1 roles whose largest is r: their rows, and what they lead to.
 fn grow_block(
-    s: &[usize],
     d: usize,
     nexts: &[u8],
     n: usize,
@@ -91,17 +90,17 @@ fn grow_block(
     ends: &mut [u8],
     from: &mut [u16],
 )
-    requires { (n ≤ 4) × (d ≤ 8) × (r < d) × Starts s.now × NextTable nexts.now
+    requires { (n ≤ 4) × (d ≤ 8) × (r < d) × NextTable nexts.now
         × Grown d nexts.now (first d (suc n) + starts (suc n) r) t.old ends.old from.old }
     ensures { Grown d nexts.now (first d (suc n) + starts (suc n) (suc r))
         t.new ends.new from.new }
 {
-    let less = first_in(s, d, n);
-    let here = first_in(s, d, n + 1) + start_in(s, n + 1, r);
-    let next = first_in(s, d, n + 2) + start_in(s, n + 1, r);
-    let fixed = fixed_steps(s, n, r);
+    let less = first_in(d, n);
+    let here = first_in(d, n + 1) + start_in(n + 1, r);
+    let next = first_in(d, n + 2) + start_in(n + 1, r);
+    let fixed = fixed_steps(n, r);
     let kept = kept_steps(r);
-    for j in 0..start_in(s, n, r + 1) {
+    for j in 0..start_in(n, r + 1) {
         let up = ups_of(t, 8 * (less + j), &fixed, &kept);
         keep_row(t, n + 1, 8 * (here + j), &up);
         ends::push(d, nexts, &up, here + j, next + j, ends, from);
@@ -109,21 +108,13 @@ fn grow_block(
 }
 
 // From the multisets of n + 1 roles.
-fn grow_level(
-    s: &[usize],
-    d: usize,
-    nexts: &[u8],
-    n: usize,
-    t: &mut [u16],
-    ends: &mut [u8],
-    from: &mut [u16],
-)
-    requires { (n ≤ 4) × (d ≤ 8) × Starts s.now × NextTable nexts.now
+fn grow_level(d: usize, nexts: &[u8], n: usize, t: &mut [u16], ends: &mut [u8], from: &mut [u16])
+    requires { (n ≤ 4) × (d ≤ 8) × NextTable nexts.now
         × Grown d nexts.now (first d (suc n)) t.old ends.old from.old }
     ensures { Grown d nexts.now (first d (suc (suc n))) t.new ends.new from.new }
 {
     for r in 0..d {
-        grow_block(s, d, nexts, n, r, t, ends, from);
+        grow_block(d, nexts, n, r, t, ends, from);
     }
 }
 
@@ -138,16 +129,8 @@ fn grow_none(d: usize, nexts: &[u8], t: &mut [u16], ends: &mut [u8], from: &mut 
 }
 
 // Inner: the least ends of the multisets of n + 1 roles, from those of n.
-pub fn grow(
-    s: &[usize],
-    d: usize,
-    nexts: &[u8],
-    n: usize,
-    t: &mut [u16],
-    ends: &mut [u8],
-    from: &mut [u16],
-)
-    requires { (n ≤ 5) × (d ≤ 8) × Starts s.now × NextTable nexts.now
+pub fn grow(d: usize, nexts: &[u8], n: usize, t: &mut [u16], ends: &mut [u8], from: &mut [u16])
+    requires { (n ≤ 5) × (d ≤ 8) × NextTable nexts.now
         × Grown d nexts.now (first d n) t.old ends.old from.old }
     ensures { Grown d nexts.now (first d (suc n)) t.new ends.new from.new }
 {
@@ -155,5 +138,5 @@ pub fn grow(
         grow_none(d, nexts, t, ends, from);
         return;
     }
-    grow_level(s, d, nexts, n - 1, t, ends, from);
+    grow_level(d, nexts, n - 1, t, ends, from);
 }

@@ -1,61 +1,85 @@
 // The tables of a search, level by level.
-ghost use Rattle.std.specs.Prelude.{List, ℕ, suc, ◌≤◌};
-ghost use Rattle.multisets.specs.Ranks.{Starts};
+ghost use Rattle.std.specs.Prelude.{◌≡◌, ℕ, suc, ◌+◌, ◌*◌, ◌≤◌};
+ghost use Rattle.multisets.specs.Ranks.{first};
 ghost use Rattle.multisets.specs.Ends.{NextTable};
-ghost use Rattle.multisets.specs.Levels.{Levels, Blank};
+ghost use Rattle.multisets.specs.Values.{Held, Light, sum_at};
+ghost use Rattle.multisets.specs.Laid.{Laid, Laid-prop};
 
 use crate::{growth, values};
 
-// Inner: the level of no role; `ends` holds 255 throughout.
-pub fn begin(d: usize, ends: &mut [u8], roles: &mut [u8], t: &[u16], from: &[u16])
-    requires { Blank d t.now ends.old from.now roles.old }
-    ensures { (nexts : List ℕ) →
-        Levels d 0 nexts t.now ends.new from.now roles.new }
-{
-    ends[0] = 0;
-    roles[0] = 0;
+// Inner: what is known of the multisets of at most six roles below d, for users by their next ends, up to the level of
+// `known` roles; the sums are those of the search under way. With room for ROWS numbers of rows, and for PLACES
+// multisets.
+#[derive(Drop)]
+pub struct LevelTables<const ROWS: usize, const PLACES: usize> {
+    pub d: usize,
+    pub known: usize,
+    pub nexts: [u8; 200],
+    pub rows: [u16; ROWS],
+    pub ends: [u8; PLACES],
+    pub from: [u16; PLACES],
+    pub roles: [u8; PLACES],
+    pub sums: [u8; PLACES],
+    pub ghost laid: { Laid d known nexts rows ends from roles sums } by { Laid-prop d known nexts rows ends from roles sums },
 }
 
-// The level of n + 1 roles.
-fn extend(
-    s: &[usize],
-    d: usize,
-    nexts: &[u8],
-    n: usize,
-    t: &mut [u16],
-    ends: &mut [u8],
-    from: &mut [u16],
-    roles: &mut [u8],
-)
-    requires { (n ≤ 5) × (d ≤ 8) × Starts s.now × NextTable nexts.now
-        × Levels d n nexts.now t.old ends.old from.old roles.old }
-    ensures { Levels d (suc n) nexts.now t.new ends.new from.new roles.new }
-{
-    growth::grow(s, d, nexts, n, t, ends, from);
-    values::join_level(s, d, n, roles);
-}
-
-// Inner: the levels up to n, where those up to `known` are made; up to which they are then.
-pub fn reach(
-    s: &[usize],
-    d: usize,
-    nexts: &[u8],
-    known: usize,
-    n: usize,
-    t: &mut [u16],
-    ends: &mut [u8],
-    from: &mut [u16],
-    roles: &mut [u8],
-) -> usize
-    requires { (n ≤ 6) × (d ≤ 8) × Starts s.now × NextTable nexts.now
-        × Levels d known nexts.now t.old ends.old from.old roles.old }
-    ensures { (n ≤ result)
-        × Levels d result nexts.now t.new ends.new from.new roles.new }
-{
-    let mut k = known;
-    while k < n {
-        extend(s, d, nexts, k, t, ends, from, roles);
-        k += 1;
+impl<const ROWS: usize, const PLACES: usize> LevelTables<ROWS, PLACES> {
+    // Inner: tables that know the level of no role.
+    pub fn new(d: usize, nexts: [u8; 200]) -> Self
+        requires { (d ≤ 8) × NextTable nexts × (8 * first d 5 ≤ ROWS) × (first d 7 ≤ PLACES) }
+        ensures { (result.d ≡ d) × (result.nexts ≡ nexts) }
+    {
+        let mut ends = [255u8; PLACES];
+        ends[0] = 0;
+        LevelTables {
+            d,
+            known: 0,
+            nexts,
+            rows: [0; ROWS],
+            ends,
+            from: [0; PLACES],
+            roles: [0; PLACES],
+            sums: [0; PLACES],
+        }
     }
-    k
+
+    // The level of a role more.
+    fn extend(&mut self)
+        requires { self.old.known ≤ 5 }
+        ensures { (self.new.known ≡ suc self.old.known) × (self.new.d ≡ self.old.d)
+            × (self.new.nexts ≡ self.old.nexts) × (self.new.sums ≡ self.old.sums) }
+    {
+        growth::grow(
+            self.d,
+            &self.nexts,
+            self.known,
+            &mut self.rows,
+            &mut self.ends,
+            &mut self.from,
+        );
+        values::join_level(self.d, self.known, &mut self.roles);
+        self.known += 1;
+    }
+
+    // Inner: the levels up to n, of which those that are known stay.
+    pub fn reach(&mut self, n: usize)
+        requires { n ≤ 6 }
+        ensures { (n ≤ self.new.known) × (self.new.d ≡ self.old.d)
+            × (self.new.nexts ≡ self.old.nexts) × (self.new.sums ≡ self.old.sums) }
+    {
+        for _ in self.known..n {
+            self.extend();
+        }
+    }
+
+    // Inner: the sums of the multisets of n roles below `end`, with what is placed before, where those of fewer are
+    // made.
+    pub fn sum_level(&mut self, end: usize, n: usize, w: [u8; 8], placed: u8)
+        requires { (n ≤ 6) × (end ≤ self.old.d) × Light w × (placed + n * 40 ≤ 255)
+            × Held self.old.d end (sum_at w placed) self.old.sums (first self.old.d n) }
+        ensures { Held self.old.d end (sum_at w placed) self.new.sums (first self.old.d (suc n))
+            × (self.new.d ≡ self.old.d) × (self.new.nexts ≡ self.old.nexts) }
+    {
+        values::sum_level(self.d, end, n, w, placed, &mut self.sums);
+    }
 }

@@ -6,4 +6,4 @@ pub mod ends;
 mod growth;
 pub mod levels;
 pub mod ranks;
-pub mod values;
+mod values;

@@ -3,7 +3,7 @@ ghost use Rattle.std.specs.Prelude.{◌≡◌, ◌≤◌};
 ghost use Rattle.multisets.specs.Ranks.{starts, first, Starts};
 
 // How many multisets of n roles below d there are, at 10 times n and d.
-const STARTS: [usize; 70] = [
+static STARTS: [usize; 70] = [
     1, 1, 1, 1, 1, 1, 1, 1, 1, 1, //
     0, 1, 2, 3, 4, 5, 6, 7, 8, 9, //
     0, 1, 3, 6, 10, 15, 21, 28, 36, 45, //
@@ -13,28 +13,28 @@ const STARTS: [usize; 70] = [
     0, 1, 7, 28, 84, 210, 462, 924, 1716, 3003,
 ];
 
-// Inner: the table itself, to be lent: each read of a constant table writes it out first.
-pub fn table() -> [usize; 70]
-    ensures { Starts result }
+// The table itself, lent.
+fn table() -> &'static [usize; 70]
+    ensures { Starts result.now }
 {
-    STARTS
+    &STARTS
 }
 
 // Inner: how many multisets of n roles below d there are.
-pub fn start_in(s: &[usize], n: usize, d: usize) -> usize
-    requires { (n ≤ 6) × (d ≤ 9) × Starts s.now }
+pub fn start_in(n: usize, d: usize) -> usize
+    requires { (n ≤ 6) × (d ≤ 9) }
     ensures { (result ≡ starts n d) × (result ≤ 3003) }
 {
-    s[10 * n + d]
+    table()[10 * n + d]
 }
 
 // Inner: where the multisets of n roles start in a table over the roles below d.
-pub fn first_in(s: &[usize], d: usize, n: usize) -> usize
-    requires { (n ≤ 7) × (d ≤ 8) × Starts s.now }
+pub fn first_in(d: usize, n: usize) -> usize
+    requires { (n ≤ 7) × (d ≤ 8) }
     ensures { (result ≡ first d n) × (result ≤ 3003) }
 {
     if n == 0 {
         return 0;
     }
-    start_in(s, n - 1, d + 1)
+    start_in(n - 1, d + 1)
 }

@@ -1,7 +1,7 @@
 // The sums of roles' weights and the sets of roles, by multiset.
 ghost use Rattle.std.specs.Prelude.{◌≡◌, ℕ, suc, ◌+◌, ◌*◌, ◌^◌, ◌≤◌, ◌<◌, length, get_or};
 ghost use Rattle.std.specs.Int.Bits.{bit_or};
-ghost use Rattle.multisets.specs.Ranks.{first, Starts};
+ghost use Rattle.multisets.specs.Ranks.{first};
 ghost use Rattle.multisets.specs.Values.{Held, Light, sum_at, set_at, Written};
 
 use crate::ranks::{first_in, start_in};
@@ -28,27 +28,27 @@ fn join_block(t: &mut [u8], from: usize, to: usize, count: usize, x: u8)
 }
 
 // The sums of the multisets of n + 1 roles below `end`, from those of n; the sum of no role is what is placed before.
-fn add_level(s: &[usize], d: usize, end: usize, n: usize, w: [u8; 8], t: &mut [u8])
-    requires { (n ≤ 5) × (d ≤ 8) × (end ≤ d) × Starts s.now × Light w × (get_or t.old 0 0 + suc n * 40 ≤ 255)
+fn add_level(d: usize, end: usize, n: usize, w: [u8; 8], t: &mut [u8])
+    requires { (n ≤ 5) × (d ≤ 8) × (end ≤ d) × Light w × (get_or t.old 0 0 + suc n * 40 ≤ 255)
         × Held d end (sum_at w (get_or t.old 0 0)) t.old (first d (suc n)) }
     ensures { Held d end (sum_at w (get_or t.old 0 0)) t.new (first d (suc (suc n))) }
 {
-    let before = first_in(s, d, n);
-    let here = first_in(s, d, n + 1);
+    let before = first_in(d, n);
+    let here = first_in(d, n + 1);
     for r in 0..end {
         add_block(
             t,
             before,
-            here + start_in(s, n + 1, r),
-            start_in(s, n, r + 1),
+            here + start_in(n + 1, r),
+            start_in(n, r + 1),
             w[r],
         );
     }
 }
 
 // Inner: the sums of the multisets of n roles below `end`, with what is placed before, where those of fewer are made.
-pub fn sum_level(s: &[usize], d: usize, end: usize, n: usize, w: [u8; 8], placed: u8, t: &mut [u8])
-    requires { (n ≤ 6) × (d ≤ 8) × (end ≤ d) × Starts s.now × Light w × (placed + n * 40 ≤ 255)
+pub fn sum_level(d: usize, end: usize, n: usize, w: [u8; 8], placed: u8, t: &mut [u8])
+    requires { (n ≤ 6) × (d ≤ 8) × (end ≤ d) × Light w × (placed + n * 40 ≤ 255)
         × Held d end (sum_at w placed) t.old (first d n) }
     ensures { Held d end (sum_at w placed) t.new (first d (suc n)) }
 {
@@ -56,7 +56,7 @@ pub fn sum_level(s: &[usize], d: usize, end: usize, n: usize, w: [u8; 8], placed
         t[0] = placed;
         return;
     }
-    add_level(s, d, end, n - 1, w, t);
+    add_level(d, end, n - 1, w, t);
 }
 
 // The set of role r alone.
@@ -68,18 +68,18 @@ fn role_bit(r: usize) -> u8
 }
 
 // Inner: the sets of the multisets of n + 1 roles, from those of n.
-pub fn join_level(s: &[usize], d: usize, n: usize, t: &mut [u8])
-    requires { (n ≤ 5) × (d ≤ 8) × Starts s.now × Held d d set_at t.old (first d (suc n)) }
+pub fn join_level(d: usize, n: usize, t: &mut [u8])
+    requires { (n ≤ 5) × (d ≤ 8) × Held d d set_at t.old (first d (suc n)) }
     ensures { Held d d set_at t.new (first d (suc (suc n))) }
 {
-    let before = first_in(s, d, n);
-    let here = first_in(s, d, n + 1);
+    let before = first_in(d, n);
+    let here = first_in(d, n + 1);
     for r in 0..d {
         join_block(
             t,
             before,
-            here + start_in(s, n + 1, r),
-            start_in(s, n, r + 1),
+            here + start_in(n + 1, r),
+            start_in(n, r + 1),
             role_bit(r),
         );
     }

@@ -1,7 +1,9 @@
 -- A search of the levels by masks of clauses.
 use Rattle.std.specs.Prelude.{ℕ, ◌+◌, ◌-◌, ◌*◌, ◌^◌, ◌<◌, ◌≤◌, Bool, true, false, ◌&&◌, not, ◌≡◌, List, ◌++◌}
-use Rattle.std.specs.Prelude.{eqb, ltb, length, get_or, replicate}
+use Rattle.std.specs.Prelude.{eqb, ltb, length, get_or, replicate, IfSome}
 use Rattle.std.specs.Int.Bits.{bit_and}
+use Rattle.std.specs.declared.option.Option.{Option}
+use Rattle.std.specs.declared.option.Option.TheVariants.{Some, None}
 use Rattle.folds.specs.Sets.{in_set}
 use Rattle.multisets.specs.Ranks.{first}
 use Rattle.multisets.specs.Rising.{Entry, Rises, entries_sum, entries_roles, bytes_of}
@@ -42,6 +44,16 @@ pub record FoundIn (test : ℕ → Bool) (from end x : ℕ) : Type 0 where
   pub met : x < 3003 → test x ≡ true
   pub none : x ≡ 3003 → (y : ℕ) → from ≤ y → y < end → test y ≡ false
 
+-- a place, or 3,003 for none
+abbrev pub place_of : Option ℕ → ℕ
+place_of None = 3003
+place_of (Some x) = x
+
+-- the same of a place that may be there
+pub record FoundAt (test : ℕ → Bool) (from end : ℕ) (o : Option ℕ) : Type 0 where
+  pub found : FoundIn test from end (place_of o)
+  pub some : IfSome o (λ x. x < 3003)
+
 -- what is asked: roles below `end`, one past the last that has weight; masks that meet no set with a role without
 -- weight
 pub record Asked (w by_set : List ℕ) (end : ℕ) : Type 0 where
@@ -79,6 +91,12 @@ pub record TriedAt (sets w : List ℕ) (placed d : ℕ) (condition : ℕ → ℕ
   pub at_most : x ≤ 3003
   pub found : x < 3003 → FoundBack sets w placed d condition n x ends from
   pub none : x ≡ 3003 → (g : List Entry) → length g ≡ n → Meets sets w placed condition g → ⊥
+
+-- the same of a place that may be there
+pub record TriedWith (sets w : List ℕ) (placed d : ℕ) (condition : ℕ → ℕ → Bool) (n : ℕ) (o : Option ℕ)
+    (ends from : List ℕ) : Type 0 where
+  pub tried : TriedAt sets w placed d condition n (place_of o) ends from
+  pub some : IfSome o (λ x. x < 3003)
 
 -- n is the least number of entries, up to `last`, that meet the condition, and g are some; n is 7 where there are none
 pub record Sought (sets w : List ℕ) (placed : ℕ) (condition : ℕ → ℕ → ℕ → Bool) (last n : ℕ) (g : List Entry)

@@ -2,68 +2,59 @@
 #![tactic(auto)]
 
 ghost use Rattle.std.specs.Prelude.{◌≡◌, List, ℕ, suc, ◌+◌, ◌*◌, ◌≤◌, length};
-ghost use Rattle.multisets.specs.Ranks.{first, Starts};
+ghost use Rattle.multisets.specs.Ranks.{first};
 ghost use Rattle.multisets.specs.Ends.{NextEnds};
 ghost use Rattle.multisets.specs.Values.{Held, sum_at};
-ghost use Rattle.multisets.specs.Levels.{Levels};
-ghost use Rattle.seek.specs.Search.{Tables, met_by, by_masks, met_at, SomeMet, FoundIn};
-ghost use Rattle.seek.specs.Search.{Ready, TriedAt, Answered};
+ghost use Rattle.seek.specs.Search.{Tables, met_by, by_masks, met_at, SomeMet, FoundAt};
+ghost use Rattle.seek.specs.Search.{Ready, TriedWith};
+ghost use Rattle.seek.specs.Answer.{AnsweredWith};
 
+use multisets::back;
+use multisets::levels::LevelTables;
 use multisets::ranks::{first_in, start_in};
-use multisets::{back, levels, values};
 
-// Some clause of the row is met by the sum and by the set of place x, and it is reached.
-fn met_at(
-    ends: &[u8],
-    sums: &[u8],
-    roles: &[u8],
-    by_sum: &[u64],
-    by_set: &[u64],
-    row: u64,
-    x: usize,
-) -> bool
-    requires { Tables (suc x) ends.now sums.now roles.now by_sum.now by_set.now }
-    ensures { result ≡ met_at ends.now sums.now roles.now
-        (met_by row by_sum.now by_set.now) x }
-{
-    if row & by_sum[sums[x] as usize] & by_set[roles[x] as usize] == 0 {
-        return false;
-    }
-    ends[x] != 255
+// Inner: the clauses that each sum of weights and each set of roles meets, as bits.
+#[derive(Drop)]
+pub struct Masks {
+    pub sums: [u64; 256],
+    pub sets: [u64; 256],
 }
 
-// Such a place from `from` to before `end`, or 3,003.
+// Some clause of the row is met by the sum and by the set of place x, and it is reached.
+fn met_at(ends: &[u8], sums: &[u8], roles: &[u8], masks: &Masks, row: u64, x: usize) -> bool
+    requires { Tables (suc x) ends.now sums.now roles.now masks.now.sums masks.now.sets }
+    ensures { result ≡ met_at ends.now sums.now roles.now
+        (met_by row masks.now.sums masks.now.sets) x }
+{
+    row & masks.sums[sums[x] as usize] & masks.sets[roles[x] as usize] != 0 && ends[x] != 255
+}
+
+// Such a place from `from` to before `end`.
 fn meeting_in(
     ends: &[u8],
     sums: &[u8],
     roles: &[u8],
-    by_sum: &[u64],
-    by_set: &[u64],
+    masks: &Masks,
     row: u64,
     from: usize,
     end: usize,
-) -> usize
-    requires { Tables end ends.now sums.now roles.now by_sum.now by_set.now × (from ≤ end) × (end ≤ 3003) }
-    ensures { FoundIn (met_at ends.now sums.now roles.now
-        (met_by row by_sum.now by_set.now)) from end result }
+) -> Option<usize>
+    requires { Tables end ends.now sums.now roles.now masks.now.sums masks.now.sets × (from ≤ end) × (end ≤ 3003) }
+    ensures { FoundAt (met_at ends.now sums.now roles.now
+        (met_by row masks.now.sums masks.now.sets)) from end result }
 {
-    for x in from..end {
-        if met_at(ends, sums, roles, by_sum, by_set, row, x) {
-            return x;
-        }
-    }
-    3003
+    (from..end).find(|x| met_at(ends, sums, roles, masks, row, *x))
 }
 
 // The clauses that the sum and the set of one of eight places from x on meet.
-fn some_met(sums: &[u8], roles: &[u8], by_sum: &[u64], by_set: &[u64], x: usize) -> u64
+fn some_met(sums: &[u8], roles: &[u8], masks: &Masks, x: usize) -> u64
     requires { (x + 8 ≤ length sums.now) × (x + 8 ≤ length roles.now) × (x ≤ 3003)
-        × (length by_sum.now ≡ 256) × (length by_set.now ≡ 256) }
-    ensures { SomeMet sums.now roles.now by_sum.now by_set.now x 8 result }
+        × (length masks.now.sums ≡ 256) × (length masks.now.sets ≡ 256) }
+    ensures { SomeMet sums.now roles.now masks.now.sums masks.now.sets x 8 result }
 {
     let mut all: u64 = 0;
     for i in 0..8usize {
-        all = all | (by_sum[sums[x + i] as usize] & by_set[roles[x + i] as usize]);
+        all = all | (masks.sums[sums[x + i] as usize] & masks.sets[roles[x + i] as usize]);
     }
     all
 }
@@ -73,19 +64,18 @@ fn meeting_in_eight(
     ends: &[u8],
     sums: &[u8],
     roles: &[u8],
-    by_sum: &[u64],
-    by_set: &[u64],
+    masks: &Masks,
     row: u64,
     x: usize,
-) -> usize
-    requires { Tables (x + 8) ends.now sums.now roles.now by_sum.now by_set.now × (x + 8 ≤ 3003) }
-    ensures { FoundIn (met_at ends.now sums.now roles.now
-        (met_by row by_sum.now by_set.now)) x (x + 8) result }
+) -> Option<usize>
+    requires { Tables (x + 8) ends.now sums.now roles.now masks.now.sums masks.now.sets × (x + 8 ≤ 3003) }
+    ensures { FoundAt (met_at ends.now sums.now roles.now
+        (met_by row masks.now.sums masks.now.sets)) x (x + 8) result }
 {
-    if row & some_met(sums, roles, by_sum, by_set, x) == 0 {
-        return 3003;
+    if row & some_met(sums, roles, masks, x) == 0 {
+        return None;
     }
-    meeting_in(ends, sums, roles, by_sum, by_set, row, x, x + 8)
+    meeting_in(ends, sums, roles, masks, row, x, x + 8)
 }
 
 // The same from `from` to before `end`, eight places at a time.
@@ -93,125 +83,92 @@ fn meeting(
     ends: &[u8],
     sums: &[u8],
     roles: &[u8],
-    by_sum: &[u64],
-    by_set: &[u64],
+    masks: &Masks,
     row: u64,
     from: usize,
     end: usize,
-) -> usize
-    requires { Tables end ends.now sums.now roles.now by_sum.now by_set.now × (from ≤ end) × (end ≤ 3003) }
-    ensures { FoundIn (met_at ends.now sums.now roles.now
-        (met_by row by_sum.now by_set.now)) from end result }
+) -> Option<usize>
+    requires { Tables end ends.now sums.now roles.now masks.now.sums masks.now.sets × (from ≤ end) × (end ≤ 3003) }
+    ensures { FoundAt (met_at ends.now sums.now roles.now
+        (met_by row masks.now.sums masks.now.sets)) from end result }
 {
     let mut x = from;
     while x + 8 <= end {
-        let found = meeting_in_eight(ends, sums, roles, by_sum, by_set, row, x);
-        if found < 3003 {
-            return found;
+        if let Some(found) = meeting_in_eight(ends, sums, roles, masks, row, x) {
+            return Some(found);
         }
         x += 8;
     }
-    meeting_in(ends, sums, roles, by_sum, by_set, row, x, end)
+    meeting_in(ends, sums, roles, masks, row, x, end)
 }
 
-// A place of the level tried, or 3,003, and up to which level the tables are made.
-#[derive(Clone, Copy)]
-pub struct Tried {
-    pub at: usize,
-    pub known: usize,
-}
-
-// The multisets of n roles below `end`: their sums, and a place that meets the row; the level is made if it isn't yet.
-fn try_level(
-    s: &[usize],
-    d: usize,
+// A place of the multisets of n roles below `end` that meets the row; their sums are made, and the level if it isn't
+// yet.
+fn try_level<const ROWS: usize, const PLACES: usize>(
+    tables: &mut LevelTables<ROWS, PLACES>,
+    masks: &Masks,
+    row: u64,
     end: usize,
     n: usize,
     w: [u8; 8],
     placed: u8,
-    nexts: &[u8],
-    by_sum: &[u64],
-    by_set: &[u64],
-    row: u64,
-    known: usize,
-    t: &mut [u16],
-    ends: &mut [u8],
-    from: &mut [u16],
-    roles: &mut [u8],
-    sums: &mut [u8],
-) -> Tried
-    requires { (n ≤ 6) × (placed + n * 40 ≤ 255) × Starts s.now
-        × Ready d end w nexts.now by_sum.now by_set.now × Held d end (sum_at w placed) sums.old (first d n)
-        × Levels d known nexts.now t.old ends.old from.old roles.old }
-    ensures { Levels d result.known nexts.now t.new ends.new from.new
-        roles.new
-        × Held d end (sum_at w placed) sums.new (first d (suc n))
-        × ((sets : List ℕ) → NextEnds sets nexts.now →
-        TriedAt sets w placed d (met_by row by_sum.now by_set.now) n result.at
-        ends.new from.new) }
+) -> Option<usize>
+    requires { (n ≤ 6) × (placed + n * 40 ≤ 255)
+        × Ready tables.old.d end w tables.old.nexts masks.now.sums masks.now.sets
+        × Held tables.old.d end (sum_at w placed) tables.old.sums (first tables.old.d n) }
+    ensures { (tables.new.d ≡ tables.old.d) × (tables.new.nexts ≡ tables.old.nexts)
+        × Held tables.old.d end (sum_at w placed) tables.new.sums (first tables.old.d (suc n))
+        × ((sets : List ℕ) → NextEnds sets tables.old.nexts →
+        TriedWith sets w placed tables.old.d (met_by row masks.now.sums masks.now.sets) n result
+        tables.new.ends tables.new.from) }
 {
-    values::sum_level(s, d, end, n, w, placed, sums);
+    tables.sum_level(end, n, w, placed);
     if row == 0 {
-        return Tried { at: 3003, known };
+        return None;
     }
-    let k = levels::reach(s, d, nexts, known, n, t, ends, from, roles);
-    let first = first_in(s, d, n);
-    let last = first + start_in(s, n, end);
-    let at = meeting(ends, sums, roles, by_sum, by_set, row, first, last);
-    Tried { at, known: k }
+    tables.reach(n);
+    let first = first_in(tables.d, n);
+    let last = first + start_in(n, end);
+    meeting(
+        &tables.ends,
+        &tables.sums,
+        &tables.roles,
+        masks,
+        row,
+        first,
+        last,
+    )
 }
 
-// The number of entries found, or 7, and their twelve bytes; and up to which level the tables are made.
+// A number of entries, and their twelve bytes.
 #[derive(Clone, Copy)]
 pub struct Found {
     pub n: usize,
     pub group: [u8; 12],
-    pub known: usize,
 }
 
 // Inner: the fewest entries, at most `last`, that meet the condition told by the masks, where entries of the sum
-// `placed` are placed before; among roles below d, of which those from `end` on have no weight.
-pub fn search(
-    s: &[usize],
-    d: usize,
-    end: usize,
+// `placed` are placed before; among the tables' roles, of which those from `end` on have no weight.
+pub fn search<const ROWS: usize, const PLACES: usize>(
+    tables: &mut LevelTables<ROWS, PLACES>,
+    masks: &Masks,
+    rows: &[u64; 7],
     last: usize,
+    end: usize,
     w: [u8; 8],
     placed: u8,
-    nexts: &[u8],
-    by_sum: &[u64],
-    by_set: &[u64],
-    rows: &[u64],
-    known: usize,
-    t: &mut [u16],
-    ends: &mut [u8],
-    from: &mut [u16],
-    roles: &mut [u8],
-    sums: &mut [u8],
-) -> Found
-    requires { (last ≤ 6) × (placed + last * 40 ≤ 255) × Starts s.now × (length rows.now ≡ 7)
-        × Ready d end w nexts.now by_sum.now by_set.now × (first d 7 ≤ length sums.old)
-        × Levels d known nexts.now t.old ends.old from.old roles.old }
-    ensures { Levels d result.known nexts.now t.new ends.new from.new
-        roles.new
-        × ((sets : List ℕ) → NextEnds sets nexts.now →
-        Answered sets w placed (by_masks rows.now by_sum.now by_set.now) last
-        result.n result.group) }
+) -> Option<Found>
+    requires { (last ≤ 6) × (placed + last * 40 ≤ 255)
+        × Ready tables.old.d end w tables.old.nexts masks.now.sums masks.now.sets }
+    ensures { (tables.new.d ≡ tables.old.d) × (tables.new.nexts ≡ tables.old.nexts)
+        × ((sets : List ℕ) → NextEnds sets tables.old.nexts →
+        AnsweredWith sets w placed (by_masks rows.now masks.now.sums masks.now.sets) last result) }
 {
-    let mut k = known;
     for n in 0..last + 1 {
-        let tried = try_level(
-            s, d, end, n, w, placed, nexts, by_sum, by_set, rows[n], k, t, ends, from, roles, sums,
-        );
-        k = tried.known;
-        if tried.at < 3003 {
-            let group = back::group(ends, from, n, tried.at);
-            return Found { n, group, known: k };
+        if let Some(at) = try_level(tables, masks, rows[n], end, n, w, placed) {
+            let group = back::group(&tables.ends, &tables.from, n, at);
+            return Some(Found { n, group });
         }
     }
-    Found {
-        n: 7,
-        group: [255; 12],
-        known: k,
-    }
+    None
 }

@@ -7,7 +7,7 @@ abbrev pub invariant-loop-x : goal.invariant-loop-x
 invariant-loop-x l = record {
   low : l.from ≤ l.x;
   within : l.x ≤ l.end;
-  none : (y : ℕ) → l.from ≤ y → y < l.x → met_at l.ends l.sums l.roles (met_by l.row l.by_sum l.by_set) y ≡ false;
+  none : (y : ℕ) → l.from ≤ y → y < l.x → met_at l.ends l.sums l.roles (met_by l.row l.masks.sums l.masks.sets) y ≡ false;
 }
 
 abbrev pub decreases-loop-x : goal.decreases-loop-x

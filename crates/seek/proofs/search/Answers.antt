@@ -1,37 +1,101 @@
 -- `search` meets its contract: no level so far has a place that meets its row; the first that has one gives the group.
-use Rattle.std.proofs.Common.{ℕ, ◌≤◌, List, length, arith}
+use Rattle.std.proofs.Common.{ℕ, ◌-◌, ◌*◌, ◌<◌, ◌≤◌, Bool, List, ◌++◌, Option, Some, length, replicate, ◌≡◌, refl, ◌∙◌, arith}
+use mathlib.Core.Logic.{⊎_elim}
+use borrow.Author.Tests.{ltb-true, ltb-false}
+use lib.Dec.{ltb}
+use Rattle.folds.proofs.Bools.{met_or_not}
 use Rattle.multisets.specs.Ranks.{first}
-use Rattle.multisets.specs.Ends.{Way, WayIn}
+use Rattle.multisets.specs.Rising.{Entry, bytes_of}
+use Rattle.multisets.specs.Standing.{bytes_back}
+use Rattle.multisets.specs.Ends.{NextEnds, WayIn, back_of}
 use Rattle.multisets.specs.Values.{Held}
-use Rattle.multisets.specs.Levels.{Levels}
+use Rattle.multisets.specs.Laid.{Laid}
 use Rattle.multisets.proofs.Places.{first_0, first_all}
+use Rattle.seek.specs.Search.{by_masks, Ready, TriedWith, Meets, group_bytes}
+use Rattle.seek.specs.Answer.{AnsweredWith}
 use Rattle.seek.proofs.search.Goals as goal
 
 -- no sums are made yet
 no_sums : {d end : ℕ} {value : ℕ → ℕ → ℕ} {t : List ℕ} → first d 7 ≤ length t → Held d end value t (first d 0)
 no_sums {d} room = record { room = room; each = λ n m few some l. absurd (omega (arith, first_0 d)) }
 
+-- a level's try, of the tables as they were handed in
+tried_here : (condition : ℕ → ℕ → Bool) {d d₁ n : ℕ} {w nexts nexts₁ ends from : List ℕ} {placed : ℕ} {o : Option ℕ} →
+    d₁ ≡ d → nexts₁ ≡ nexts →
+    ((sets : List ℕ) → NextEnds sets nexts₁ → TriedWith sets w placed d₁ condition n o ends from) →
+    (sets : List ℕ) → NextEnds sets nexts → TriedWith sets w placed d condition n o ends from
+tried_here condition same_d same_nexts tried = rw (same_d, same_nexts) at tried
+
 -- the way back from the place found
-back_way : {d k n x : ℕ} {nexts t ends from roles : List ℕ} → d ≤ 8 → Levels d k nexts t ends from roles →
-    Way (first d 7) ends from n x → WayIn ends from n x
-back_way {d} most levels way = record {
-  room = first d 7;
-  most = first_all d most;
-  ends_room = levels.grown.filled.room;
-  from_room = levels.grown.filled.places;
-  way = way;
-}
+back_way : (condition : ℕ → ℕ → Bool) {d d₁ end k n at : ℕ} {w nexts nexts₁ by_sum by_set t ends from roles sums : List ℕ}
+    {placed : ℕ} → ((sets : List ℕ) → NextEnds sets nexts → TriedWith sets w placed d condition n (Some at) ends from) →
+    d₁ ≡ d → Ready d end w nexts by_sum by_set → Laid d₁ k nexts₁ t ends from roles sums → WayIn ends from n at
+back_way condition {d} tried same_d ready laid₁ =
+    let laid = rw same_d at laid₁ in
+    let one = tried ready.users ready.next_ends in
+    record {
+      room = first d 7;
+      most = first_all d laid.most;
+      ends_room = laid.levels.grown.filled.room;
+      from_room = laid.levels.grown.filled.places;
+      way = (one.tried.found one.some).way;
+    }
+
+shown_by : {n : ℕ} {bytes back : List ℕ} (g : List Entry) → length g ≡ n → bytes_of g ≡ back →
+    bytes ≡ back ++ replicate (12 - 2 * n) 255 → bytes ≡ group_bytes g
+shown_by g many same is = is ∙ rw (← same, ← many) refl
+
+-- where no level before has a place, the group found back is the answer
+answer : (condition : ℕ → ℕ → ℕ → Bool) {d n at last : ℕ} {w nexts ends from bytes : List ℕ} {placed : ℕ} →
+    ((sets : List ℕ) → NextEnds sets nexts → TriedWith sets w placed d (condition n) n (Some at) ends from) →
+    n ≤ last → last ≤ 6 →
+    ((sets : List ℕ) → NextEnds sets nexts → (h : List Entry) → length h < n →
+    Meets sets w placed (condition (length h)) h → ⊥) →
+    bytes ≡ bytes_back (back_of ends from n at) ++ replicate (12 - 2 * n) 255 →
+    (sets : List ℕ) → NextEnds sets nexts →
+    AnsweredWith sets w placed condition last (Some record { n = n; group = bytes })
+answer condition {n = n} tried low most none is sets next =
+    let one = tried sets next in
+    let found = one.tried.found one.some in
+    record {
+      answered = record {
+        group = found.group;
+        sought = record {
+          few = omega arith;
+          within = λ h. low;
+          many = λ h. found.many;
+          meets = λ h. found.meets;
+          least = λ h l m. ⊎_elim
+              (λ t. absurd (none sets next h (ltb-true (length h) n t) m))
+              (λ t. ltb-false (length h) n t)
+              (met_or_not (ltb (length h) n));
+        };
+        shown = λ h. shown_by found.group found.many found.bytes is;
+      };
+      some = omega arith;
+    }
 
 pub loop-n-init : goal.loop-n-init
-loop-n-init c = record {
-  levels = c.requires.6;
-  added = no_sums c.requires.5;
+loop-n-init g c = record {
+  d = refl;
+  nexts = refl;
+  added = no_sums c.args.tables.now.laid.room;
   none = λ sets next h l m. absurd (omega arith);
 }
 
 pub group-group-requires : goal.group-group-requires
-group-group-requires c =
-    let ready = c.requires.4 in
-    let (levels, _, tried) = c.try_level-tried.ensures in
-    let found = (tried ready.users ready.next_ends).found c.if-tried-lt3003.true in
-    (omega arith, back_way ready.most levels found.way)
+group-group-requires g c =
+    let i = c.loop-n.invariant in
+    let (d, nexts, added, tried) = c.in-Some.ensures in
+    let one = tried_here _ i.d i.nexts tried in
+    (omega arith, back_way _ one (d ∙ i.d) c.requires.2 c.try_level.new.tables.laid)
+
+pub returns-in-Some : goal.returns-in-Some
+returns-in-Some g c =
+    let i = c.loop-n.invariant in
+    let m = c.args.masks.now in
+    let (d, nexts, added, tried) = c.in-Some.ensures in
+    let one = tried_here _ i.d i.nexts tried in
+    let low : c.loop-n.n ≤ c.args.last = omega arith in
+    let found = answer (by_masks c.args.rows.now m.sums m.sets) one low c.requires.0 i.none c.group-group.ensures in
+    (d ∙ i.d, nexts ∙ i.nexts, found)

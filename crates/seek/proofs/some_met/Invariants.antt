@@ -3,4 +3,4 @@ use Rattle.seek.specs.Search.{SomeMet}
 use Rattle.seek.proofs.some_met.Given as goal
 
 abbrev pub invariant-loop-i : goal.invariant-loop-i
-invariant-loop-i l = SomeMet l.sums l.roles l.by_sum l.by_set l.x l.i l.all
+invariant-loop-i l = SomeMet l.sums l.roles l.masks.sums l.masks.sets l.x l.i l.all

@@ -162,7 +162,7 @@ loop-j-init c =
     let p = c.requires in
     let b = block_of p.0 p.1 p.2 c.first_in-less.ensures c.first_in.ensures c.start_in.ensures c.first_in-2.ensures
     c.start_in-2.ensures c.start_in-j-end.ensures c.fixed_steps-fixed.ensures c.kept_steps-kept.ensures in
-    block_start b p.5
+    block_start b p.4
 
 pub ups_of-up-requires : goal.ups_of-up-requires
 ups_of-up-requires c = asked c.loop-j.invariant c.loop-j-test.true
@@ -177,7 +177,7 @@ pub push-requires : goal.push-requires
 push-requires c =
     let t = c.loop-j.invariant in
     let l = c.loop-j-test.true in
-    pushing t l c.ups_of-up.ensures.0 (made t l c.ups_of-up.ensures.1) c.requires.4
+    pushing t l c.ups_of-up.ensures.0 (made t l c.ups_of-up.ensures.1) c.requires.3
 
 pub loop-j-preserved : goal.loop-j-preserved
 loop-j-preserved c =

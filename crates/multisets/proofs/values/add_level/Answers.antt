@@ -49,14 +49,14 @@ module _ {d end n : ℕ} (placed : ℕ) {w : List ℕ} {r : ℕ} {t : List ℕ}
           omega (arith, reads j (rw b.count_is l), e)
 
 pub loop-r-init : goal.loop-r-init
-loop-r-init c = level_start c.requires.2 c.args.n c.requires.6
+loop-r-init c = level_start c.requires.2 c.args.n c.requires.5
 
 pub add_block-requires : goal.add_block-requires
 add_block-requires c =
     let p = c.requires in
     let b = read c.first_in-before.ensures.0 c.first_in-here.ensures.0 c.start_in.ensures.0
     c.start_in-in-loop-r.ensures.0 in
-    asked (get_or c.args.t.now 0 0) c.loop-r.invariant p.0 p.1 p.2 p.4 p.5 c.loop-r-test.true b
+    asked (get_or c.args.t.now 0 0) c.loop-r.invariant p.0 p.1 p.2 p.3 p.4 c.loop-r-test.true b
 
 pub loop-r-preserved : goal.loop-r-preserved
 loop-r-preserved c =
@@ -64,7 +64,7 @@ loop-r-preserved c =
     let b = read c.first_in-before.ensures.0 c.first_in-here.ensures.0 c.start_in.ensures.0
     c.start_in-in-loop-r.ensures.0 in
     let w = c.add_block.ensures in
-    turn_more (get_or c.args.t.now 0 0) c.loop-r.invariant p.0 p.1 p.2 p.4 p.5 c.loop-r-test.true b w
+    turn_more (get_or c.args.t.now 0 0) c.loop-r.invariant p.0 p.1 p.2 p.3 p.4 c.loop-r-test.true b w
 
 pub returns : goal.returns
 returns c =

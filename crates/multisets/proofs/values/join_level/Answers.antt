@@ -39,7 +39,7 @@ module _ {d n r : ℕ} {t : List ℕ} (held : Held d d set_at t (first d (suc n)
           ap (λ (x : ℕ). bit_or x (2 ^ r)) read ∙ sym (set_block n r j role_eight l)
 
 pub loop-r-init : goal.loop-r-init
-loop-r-init c = level_start (le_refl c.args.d) c.args.n c.requires.3
+loop-r-init c = level_start (le_refl c.args.d) c.args.n c.requires.2
 
 pub join_block-requires : goal.join_block-requires
 join_block-requires c =

@@ -29,21 +29,21 @@ module _ {d end : ℕ} (w : List ℕ) (placed n : ℕ) (t : List ℕ) (held : He
       ap (λ (i : ℕ). get_or t i 0) (sym z) ∙ held.each 0 0 (omega arith) one low ∙ sum_none w placed
 
 pub bounds-t-0 : goal.bounds-t-0
-bounds-t-0 c = room c.args.w c.args.placed _ _ c.requires.6
+bounds-t-0 c = room c.args.w c.args.placed _ _ c.requires.5
 
 pub returns-then-n-eq0 : goal.returns-then-n-eq0
-returns-then-n-eq0 c = begun c.args.w c.args.placed _ _ c.requires.6 c.if-n-eq0.true c.requires.2
+returns-then-n-eq0 c = begun c.args.w c.args.placed _ _ c.requires.5 c.if-n-eq0.true c.requires.2
 
 pub add_level-requires : goal.add_level-requires
 add_level-requires c =
     let p = c.requires in
     let some = pos_of_ne-zero c.if-n-eq0.false in
-    let is = placed_is c.args.w c.args.placed _ _ p.6 some in
+    let is = placed_is c.args.w c.args.placed _ _ p.5 some in
     let up : suc (c.args.n - 1) ≡ c.args.n = omega arith in
-    (omega (arith, p.0), p.1, p.2, p.3, p.4, rw (is, up) p.5, rw (is, up) p.6)
+    (omega (arith, p.0), p.1, p.2, p.3, rw (is, up) p.4, rw (is, up) p.5)
 
 pub returns : goal.returns
 returns c =
     let some = pos_of_ne-zero c.if-n-eq0.false in
     let up : suc (c.args.n - 1) ≡ c.args.n = omega arith in
-    rw (placed_is c.args.w c.args.placed _ _ c.requires.6 some, up) at c.add_level.ensures
+    rw (placed_is c.args.w c.args.placed _ _ c.requires.5 some, up) at c.add_level.ensures
