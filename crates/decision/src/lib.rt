@@ -83,10 +83,7 @@ pub fn decide_checked(base: &[u8], permission: u8, s: Fixed, group: &[u8]) -> Re
 {
     let juniors = s.juniors;
     members_refusal(base, juniors, group)?;
-    let mut own = [0u8; 128];
-    let mut inh = [0u8; 128];
-    weights::choose(base, s, &mut own, &mut inh);
-    let w = weights::role_weights(&own, &inh, juniors, permission);
+    let w = weights::choose(base, s).role_weights(juniors, permission);
     if groups::some_weightless(group, w) {
         return Err(Refusal::Weightless);
     }

@@ -1,5 +1,5 @@
 -- `decide_checked` meets its contract: 12 to 15 by `members_refusal`, then 16 and 17 by the weights.
-use Rattle.std.proofs.Common.{ℕ, Bool, true, false, List, length, get_or, ◌≡◌, ◌<◌, ◌≤◌}
+use Rattle.std.proofs.Common.{ℕ, Bool, true, false, List, length, get_or, ◌≡◌, ◌<◌, ◌≤◌, rules}
 use mathlib.Core.Bool.{cond}
 use mathlib.Core.Path.{sym, ◌∙◌}
 use native.Mathlib.Nat.{lt_of_lt_of_le}
@@ -13,7 +13,6 @@ use Rattle.weights.specs.declared.Context.{Context}
 use Rattle.weights.specs.Weights.{weight}
 use Rattle.weights.specs.Setting.{AreWeights}
 use Rattle.weights.specs.Acting.{may_act}
-use Rattle.weights.proofs.Choice.{vacant}
 use Rattle.weights.proofs.Weigh.{weights_le}
 use Rattle.decision.specs.Conditions.{permission_holds}
 use Rattle.decision.specs.Groups.{entry_count, entry_role, sum_of, roles_of, some_weightless, group_refusal}
@@ -80,14 +79,10 @@ returns-in_err-members_refusal c =
     handed_on _ _ c.from_residual.ensures.1 ∙ by_members _ _ _ _ _ c.in_err-members_refusal.ensures (refusal_pos _)
 
 pub choose-requires : goal.choose-requires
-choose-requires c = (c.requires.0, c.requires.2, vacant, vacant)
+choose-requires c = (c.requires.0, c.requires.2)
 
 pub role_weights-w-requires : goal.role_weights-w-requires
-role_weights-w-requires c = (
-  c.choose.ensures.own_light,
-  c.choose.ensures.inh_light,
-  lt_of_lt_of_le c.requires.1 (permissions_le _ (accepted _ c.requires.0).frame),
-)
+role_weights-w-requires c = lt_of_lt_of_le c.requires.1 (permissions_le _ (accepted _ c.requires.0).frame)
 
 pub some_weightless-requires : goal.some_weightless-requires
 some_weightless-requires c = (known c.requires.0 (sym c.in_ok-members_refusal.ensures)).low
