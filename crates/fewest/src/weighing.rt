@@ -5,27 +5,6 @@ ghost use Rattle.fewest.specs.Search.{WeighedBelow};
 use masks::Weighed;
 use reader::bytes;
 
-// The lesser of two weights, of which x is 0 where there is none yet.
-fn lesser(x: usize, y: usize) -> usize
-    ensures { (0 < x → result ≤ x) × (result ≤ y) × (0 < y → 0 < result) }
-{
-    if 0 < x {
-        if x < y {
-            return x;
-        }
-    }
-    y
-}
-
-fn larger(x: usize, y: usize) -> usize
-    ensures { (x ≤ result) × (y ≤ result) × ((m : ℕ) → x ≤ m → y ≤ m → result ≤ m) }
-{
-    if x < y {
-        return y;
-    }
-    x
-}
-
 // What the roles before role r weigh, and role r, of weight x.
 fn with_role(s: Weighed, x: usize, r: u8) -> Weighed
     requires { (r < 8) × (x ≤ 40) }
@@ -34,11 +13,9 @@ fn with_role(s: Weighed, x: usize, r: u8) -> Weighed
     if x == 0 {
         return s;
     }
-    let light = lesser(s.light, x);
-    let heavy = larger(s.heavy, x);
     Weighed {
-        light,
-        heavy,
+        light: if s.light == 0 { x } else { s.light.min(x) },
+        heavy: s.heavy.max(x),
         end: r + 1,
     }
 }
@@ -48,13 +25,10 @@ pub fn weighed(w: [u8; 8]) -> Weighed
     requires { (r : ℕ) → r < 8 → get_or w r 0 ≤ 40 }
     ensures { WeighedBelow w 8 result }
 {
-    let mut s = Weighed {
+    let none = Weighed {
         light: 0,
         heavy: 0,
         end: 0,
     };
-    for r in 0..8u8 {
-        s = with_role(s, bytes::wide(w[bytes::wide(r)]), r);
-    }
-    s
+    (0..8u8).fold(none, |s, r| with_role(s, bytes::wide(w[bytes::wide(r)]), r))
 }

@@ -1,6 +1,5 @@
 pub mod Answers
 pub mod Bridge
-pub mod Copy
 pub mod Demand
 pub mod Filling
 pub mod Least

@@ -29,7 +29,10 @@ use Rattle.decision.specs.Conditions.{permission_holds}
 use Rattle.decision.specs.Granting.{Granted}
 use Rattle.decision.proofs.Granting.{granted_by}
 use Rattle.report.specs.Smallest.{smallest_by}
+use Rattle.std.specs.Prelude.{Option, Some, None, MatchOption}
+use Rattle.seek.specs.declared.Found.{Found}
 use Rattle.seek.specs.Search.{Answered}
+use Rattle.seek.specs.Answer.{AnsweredWith}
 use Rattle.masks.specs.Sets.{RoleCounts}
 use Rattle.masks.proofs.Made.{checked}
 use Rattle.fewest.specs.Search.{holds_with, Seeking}
@@ -94,9 +97,8 @@ module _ (rules b : List ℕ) (at : Context) (p : ℕ) (ok : refusal_of b ≡ 0)
   }
 
   -- what the search finds is the permission's part
-  module _ (there : p < permission_count b) (in_range : out_of_range at ≡ false) (sets w : List ℕ)
-      (acting : ActingSets b sets) (are : AreWeights rules b at p w)
-      {n : ℕ} {bytes : List ℕ} (a : Answered sets w 0 (holds_with (table_of b clauses) p nobody) 6 n bytes) where
+  module _ (there : p < permission_count b) (in_range : out_of_range at ≡ false) {sets w : List ℕ}
+      (acting : ActingSets b sets) (are : AreWeights rules b at p w) where
     abbrev granted : List ℕ → Bool
     granted g = eqb (decision_by rules b at p g) 0
 
@@ -118,12 +120,20 @@ module _ (rules b : List ℕ) (at : Context) (p : ℕ) (ok : refusal_of b ≡ 0)
       bytes = f.bytes;
     }
 
-    pub part_none : n ≡ 7 → PartFor (decision_by rules b at) p (0 ∷ replicate 12 255)
-    part_none e = part_is
+    part_none : {n : ℕ} {bytes : List ℕ} → Answered sets w 0 (holds_with (table_of b clauses) p nobody) 6 n bytes → n ≡ 7 →
+        PartFor (decision_by rules b at) p (0 ∷ replicate 12 255)
+    part_none a e = part_is
         (shown_none (table_of b clauses) p (tables_of sets w acting are) few_roles granted
         (of_decision rules b at p) is a e)
 
-    pub part_found : n ≤ 6 → PartFor (decision_by rules b at) p (n ∷ bytes)
-    part_found few =
-        part_is (shown_found (table_of b clauses) p (tables_of sets w acting are) few_roles granted
+    part_found : {n : ℕ} {bytes : List ℕ} → Answered sets w 0 (holds_with (table_of b clauses) p nobody) 6 n bytes → n ≤ 6 →
+        PartFor (decision_by rules b at) p (n ∷ bytes)
+    part_found a few = part_is
+        (shown_found (table_of b clauses) p (tables_of sets w acting are) few_roles granted
         (of_decision rules b at p) is a few)
+
+    pub part_with : {part : List ℕ} (o : Option Found) →
+        AnsweredWith sets w 0 (holds_with (table_of b clauses) p nobody) 6 o →
+        MatchOption o (part ≡ 0 ∷ replicate 12 255) (λ f. part ≡ f.n ∷ f.group) → PartFor (decision_by rules b at) p part
+    part_with None a e = rw e (part_none a.answered refl)
+    part_with (Some f) a e = rw e (part_found a.answered a.some)

@@ -1,15 +1,12 @@
 // The release report: the smallest group for each permission.
 #![tactic(auto)]
 
-ghost use Rattle.std.specs.Prelude.{◌≡◌, false, ◌*◌, ◌≤◌, length};
+ghost use Rattle.std.specs.Prelude.{◌≡◌, ◌*◌, ◌≤◌, length};
 ghost use Rattle.reader.specs.Tables.{permission_count};
 ghost use Rattle.reader.specs.Rules.{refusal_of};
 ghost use Rattle.reader.specs.Refusals.{answer_from, number_of};
-ghost use Rattle.weights.specs.Contexts.{out_of_range};
-ghost use Rattle.weights.specs.Setting.{rules_of, FixedBy};
-ghost use Rattle.decision.specs.Decision.{decision_by};
-ghost use Rattle.report.specs.Report.{fitting, releasable, ReportedOf, ReportedLent};
-ghost use Rattle.report.specs.Parts.{Filled};
+ghost use Rattle.report.specs.Report.{fitting, ReportedOf, ReportedLent};
+ghost use Rattle.report.specs.Parts.{Settled, decided, FilledBy};
 ghost use Rattle.report.specs.Demand.{Demanded, DemandedLent};
 
 use reader::{Refusal, Refused, bytes};
@@ -57,13 +54,9 @@ fn fitting_refusal(base: &[u8], at: Context, n: usize) -> Result<(), Refusal>
 
 // Writes each permission's part, by a setting of an accepted base; the number of permissions that have a group.
 fn fill(base: &[u8], s: Fixed, out: &mut [u8]) -> u32
-    requires { (refusal_of base.now ≡ 0) × (out_of_range s.at ≡ false) × FixedBy base.now s
-        × (13 * permission_count base.now ≤ length out.old) }
-    ensures { (result ≡ releasable (decision_by (rules_of s) base.now s.at) (permission_count base.now))
-        × Filled (decision_by (rules_of s) base.now s.at) (permission_count base.now)
-        out.old out.new }
+    requires { Settled base.now s × (13 * permission_count base.now ≤ length out.old) }
+    ensures { FilledBy (decided base.now s) (permission_count base.now) out.old out.new result }
 {
-    let juniors = s.juniors;
-    let sets = parts::acting_sets(base, juniors);
+    let sets = parts::acting_sets(base, s.juniors);
     parts::fill(base, s, sets, out)
 }

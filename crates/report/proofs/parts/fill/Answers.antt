@@ -1,7 +1,94 @@
--- `fill` meets its contract: the tables for five roles suffice where there are at most five.
-use Rattle.reader.proofs.Frame.{framed}
+-- `fill` meets its contract: smaller tables suffice where there are fewer roles.
+use Rattle.std.proofs.Common.{ℕ, ◌*◌, ◌^◌, ◌≤◌, false, cond, ltb, List, ◌≡◌, refl, ◌∙◌, get_or, arith}
+use mathlib.Core.Logic.{⊎_elim}
+use Rattle.std.proofs.Math.ListN.{get_or-eq_default}
+use borrow.Author.Tests.{ltb-true, ltb-false}
+use Rattle.folds.specs.Below.{sum_below}
+use Rattle.folds.specs.Sets.{set_below}
+use Rattle.folds.proofs.Bools.{met_or_not, never_met}
+use Rattle.folds.proofs.Numbers.{sum_zero}
+use Rattle.reader.specs.Tables.{role_count, user_count}
+use Rattle.reader.specs.Rules.{refusal_of}
+use Rattle.reader.proofs.Frame.{framed, roles_range, users_le}
 use Rattle.reader.proofs.Accepted.{accepted_frame}
+use Rattle.weights.specs.Acting.{may_act}
+use Rattle.weights.proofs.MayAct.{acting_known}
+use Rattle.multisets.specs.Ranks.{starts, first}
+use Rattle.multisets.specs.Ends.{NextEnds}
+use Rattle.multisets.proofs.Places.{first_mono}
+use Rattle.report.specs.Parts.{ActingSets, UsersOf}
 use Rattle.report.proofs.parts.fill.Goals as goal
 
+-- users that aren't there may act in no role
+idle : (b : List ℕ) (u : ℕ) → user_count b ≤ u → set_below 8 (may_act b u) ≡ 0
+unfolding set_below
+idle b u past = sum_zero (λ r. cond (may_act b u r) (2 ^ r) 0) 8 (λ r l. rw (none r))
+  where
+    none : (r : ℕ) → may_act b u r ≡ false
+    none r = never_met (may_act b u r) (λ h. omega (arith, (acting_known b u r h).0))
+
+module _ {b sets : List ℕ} (acting : ActingSets b sets) (ok : refusal_of b ≡ 0) where
+  few_users : {n : ℕ} → n ≡ user_count b → n ≤ 24
+  few_users e = rw e (users_le b (accepted_frame b ok))
+
+  idle_past : {n : ℕ} → n ≡ user_count b → (u : ℕ) → n ≤ u → get_or sets u 0 ≡ 0
+  idle_past e u past = ⊎_elim
+      (λ t. acting.user u (ltb-true u 24 t) ∙ idle b u (rw e at past))
+      (λ t. get_or-eq_default sets 0 (omega (arith, ltb-false u 24 t, acting.size)))
+      (met_or_not (ltb u 24))
+
+users_of : {b sets nexts : List ℕ} → ActingSets b sets → NextEnds sets nexts → UsersOf b nexts
+users_of {sets = sets} acting ends = record { sets = sets; acting = acting; ends = ends }
+
+-- there is room for d roles where there is for n
+room : (n : ℕ) {d rows places : ℕ} → 8 * first n 5 ≡ rows → first n 7 ≡ places → d ≤ n →
+    (8 * first d 5 ≤ rows) × (first d 7 ≤ places)
+room n {d} rows places few = (omega (arith, first_mono d n 5 few), omega (arith, first_mono d n 7 few))
+
+module _ {d : ℕ} where
+  room_for_3 : d ≤ 3 → (8 * first d 5 ≤ 280) × (first d 7 ≤ 84)
+  unfolding first starts sum_below
+  room_for_3 = room 3 refl refl
+
+  room_for_5 : d ≤ 5 → (8 * first d 5 ≤ 1008) × (first d 7 ≤ 462)
+  unfolding first starts sum_below
+  room_for_5 = room 5 refl refl
+
+  room_for_8 : d ≤ 8 → (8 * first d 5 ≤ 3960) × (first d 7 ≤ 3003)
+  unfolding first starts sum_below
+  room_for_8 = room 8 refl refl
+
+pub user_count-requires : goal.user_count-requires
+user_count-requires c = accepted_frame _ c.requires.0.accepted
+
+pub next_ends-nexts-requires : goal.next_ends-nexts-requires
+next_ends-nexts-requires c =
+    let p = c.requires in
+    let n = c.user_count.ensures in
+    (p.1.size, few_users p.1 p.0.accepted n, idle_past p.1 p.0.accepted n)
+
 pub role_count-requires : goal.role_count-requires
-role_count-requires c = (framed _ (accepted_frame _ c.requires.0)).long
+role_count-requires c = (framed _ (accepted_frame _ c.requires.0.accepted)).long
+
+pub fill_in-requires : goal.fill_in-requires
+fill_in-requires c =
+    let p = c.requires in
+    let (next, table) = c.next_ends-nexts.ensures in
+    let few : role_count c.args.base.now ≤ 3 = omega (arith, c.role_count.ensures) in
+    let (rows, places) = room_for_3 few in
+    (c.grounds_of-s.ensures.1, users_of p.1 next, table, rows, places, omega arith, omega arith, p.2)
+
+pub fill_in-requires-in-4 : goal.fill_in-requires-in-4
+fill_in-requires-in-4 c =
+    let p = c.requires in
+    let (next, table) = c.next_ends-nexts.ensures in
+    let few : role_count c.args.base.now ≤ 5 = omega (arith, c.role_count.ensures) in
+    let (rows, places) = room_for_5 few in
+    (c.grounds_of-s.ensures.1, users_of p.1 next, table, rows, places, omega arith, omega arith, p.2)
+
+pub fill_in-requires-in_default : goal.fill_in-requires-in_default
+fill_in-requires-in_default c =
+    let p = c.requires in
+    let (next, table) = c.next_ends-nexts.ensures in
+    let (rows, places) = room_for_8 (roles_range _ (accepted_frame _ p.0.accepted)).1 in
+    (c.grounds_of-s.ensures.1, users_of p.1 next, table, rows, places, omega arith, omega arith, p.2)

@@ -1,80 +1,85 @@
--- `fill_in` meets its contract: what `fill_parts` asks for is worked out here, once a report.
-use Rattle.std.proofs.Common.{ℕ, ◌^◌, ◌≤◌, false, cond, ltb, List, ◌≡◌, ◌∙◌, get_or, arith}
-use mathlib.Core.Logic.{⊎_elim}
-use Rattle.std.proofs.Math.ListN.{get_or-eq_default}
-use borrow.Author.Tests.{ltb-true, ltb-false}
-use Rattle.folds.specs.Sets.{set_below}
-use Rattle.folds.proofs.Bools.{met_or_not, never_met}
-use Rattle.folds.proofs.Numbers.{sum_zero}
-use Rattle.reader.specs.Tables.{user_count}
-use Rattle.reader.specs.Rules.{refusal_of}
-use Rattle.reader.proofs.Frame.{framed, roles_range, users_le}
+-- `fill_in` meets its contract: permission by permission, the parts so far stand and the count is that of those with a
+-- group.
+use Rattle.std.proofs.Common.{ℕ, ◌+◌, ◌-◌, ◌*◌, ◌≤◌, List, ◌≡◌, length, sym, ◌∙◌, ltb, Bool, true, false, arith, rules}
+use Rattle.std.specs.Int.{from_bool}
+use borrow.Rule.Slice.PartMut.{put_mid}
+use Rattle.folds.specs.Below.{count_below}
+use Rattle.folds.proofs.Numbers.{count_none, count_le}
+use Rattle.reader.proofs.Frame.{framed, roles_range}
 use Rattle.reader.proofs.Accepted.{accepted_frame}
-use Rattle.weights.specs.Acting.{may_act}
-use Rattle.weights.proofs.Choice.{vacant}
-use Rattle.weights.proofs.MayAct.{acting_known}
-use Rattle.masks.specs.Sets.{RoleCounts}
-use Rattle.multisets.specs.Levels.{Levels}
-use Rattle.report.specs.Parts.{ActingSets}
+use Rattle.multisets.specs.Ranks.{first}
+use Rattle.multisets.specs.Ends.{NextTable}
+use Rattle.report.specs.Smallest.{Deciding, smallest_by}
+use Rattle.report.specs.Report.{releasable}
+use Rattle.report.specs.Parts.{PartFor, Filled, UsersOf}
+use Rattle.report.proofs.Filling.{filled_none, filled_more, count_part}
 use Rattle.report.proofs.parts.fill_in.Goals as goal
 
--- users that aren't there may act in no role
-idle : (b : List ℕ) (u : ℕ) → user_count b ≤ u → set_below 8 (may_act b u) ≡ 0
-unfolding set_below
-idle b u past = sum_zero (λ r. cond (may_act b u r) (2 ^ r) 0) 8 (λ r l. rw (none r))
-  where
-    none : (r : ℕ) → may_act b u r ≡ false
-    none r = never_met (may_act b u r) (λ h. omega (arith, (acting_known b u r h).0))
+module _ {decision : Deciding} {p : ℕ} where
+  -- one part more
+  filled_by : {w : ℕ} {was out part written : List ℕ} → Filled decision p was out → PartFor decision p part →
+      w ≡ p → written ≡ part → 13 * p + 13 ≤ length out →
+      Filled decision (p + 1) was (put_mid (13 * w) (13 * w + 13 - 13 * w) out written)
+  filled_by {w} {was} {out} {part} f this e same fit = rw (e, same) (filled_more decision p was out part f this fit)
 
-module _ {b sets : List ℕ} (acting : ActingSets b sets) (ok : refusal_of b ≡ 0) where
-  few_users : {n : ℕ} → n ≡ user_count b → n ≤ 24
-  few_users e = rw e (users_le b (accepted_frame b ok))
+  done : {P count : ℕ} {was out : List ℕ} → p ≡ P → count ≡ count_below p (λ q. ltb 0 (smallest_by decision q)) →
+      Filled decision p was out → (count ≡ releasable decision P) × Filled decision P was out
+  unfolding releasable
+  done e counted f = (counted ∙ rw e, rw e at f)
 
-  idle_past : {n : ℕ} → n ≡ user_count b → (u : ℕ) → n ≤ u → get_or sets u 0 ≡ 0
-  idle_past e u past = ⊎_elim
-      (λ t. acting.user u (ltb-true u 24 t) ∙ idle b u (rw e at past))
-      (λ t. get_or-eq_default sets 0 (omega (arith, ltb-false u 24 t, acting.size)))
-      (met_or_not (ltb u 24))
+room : {d d' rows places : ℕ} {nexts : List ℕ} → d ≡ d' → d' ≤ 8 → NextTable nexts → 8 * first d' 5 ≤ rows →
+    first d' 7 ≤ places → (d ≤ 8) × NextTable nexts × (8 * first d 5 ≤ rows) × (first d 7 ≤ places)
+room e most table rows places = rw e (most, table, rows, places)
 
--- the same number of roles, and of sets of them
-module _ {d d' : ℕ} (e : d ≡ d') where
-  same_levels : {nexts t ends from roles : List ℕ} → Levels d 0 nexts t ends from roles →
-      Levels d' 0 nexts t ends from roles
-  same_levels l = rw e at l
+-- a test counts for at most 1
+bit : (t : Bool) {n : ℕ} → n ≡ from_bool t → n ≤ 1
+bit true e = omega arith
+bit false e = omega arith
 
-  same_counts : {n : ℕ} {counts : List ℕ} → n ≡ 2 ^ d → RoleCounts n counts → RoleCounts (2 ^ d') counts
-  same_counts f c = rw e at (rw f at c)
+same_users : {b nexts nexts' : List ℕ} → nexts' ≡ nexts → UsersOf b nexts → UsersOf b nexts'
+same_users e u = rw e u
 
-pub role_count-d-requires : goal.role_count-d-requires
-role_count-d-requires c = (framed _ (accepted_frame _ c.requires.0)).long
+pub role_count-requires : goal.role_count-requires
+role_count-requires g c = (framed _ (accepted_frame _ c.requires.0.settled.accepted)).long
 
-pub user_count-users-requires : goal.user_count-users-requires
-user_count-users-requires c = accepted_frame _ c.requires.0
-
-pub next_ends-nexts-requires : goal.next_ends-nexts-requires
-next_ends-nexts-requires c =
+pub new-tables-requires : goal.new-tables-requires
+new-tables-requires g c =
     let p = c.requires in
-    let n = c.user_count-users.ensures in
-    (p.3.size, few_users p.3 p.0 n, idle_past p.3 p.0 n)
+    let roles = c.wide-roles.ensures.0 ∙ c.role_count.ensures in
+    (omega arith, room roles (roles_range _ (accepted_frame _ p.0.settled.accepted)).1 p.2 p.3 p.4)
 
-pub choose-requires : goal.choose-requires
-choose-requires c = let p = c.requires in (p.0, p.2, vacant, vacant)
+pub permission_count-p-end-requires : goal.permission_count-p-end-requires
+permission_count-p-end-requires g c = accepted_frame _ c.requires.0.settled.accepted
 
-pub sets_below-requires : goal.sets_below-requires
-sets_below-requires c = rw c.role_count-d.ensures (roles_range _ (accepted_frame _ c.requires.0)).1
+pub part_for-part-requires : goal.part_for-part-requires
+part_for-part-requires g c =
+    let v = c.loop-p.invariant in
+    (omega arith, (c.requires.0, same_users v.nexts c.requires.1, v.roles, omega arith))
 
-pub fill_parts-requires : goal.fill_parts-requires
-fill_parts-requires c =
-    let p = c.requires in
-    let d = c.role_count-d.ensures in (
-      p.0,
-      p.1,
-      p.2,
-      c.choose.ensures,
-      c.table-starts.ensures,
-      same_counts d c.sets_below.ensures.0 c.role_counts.ensures,
-      (_, p.3, c.next_ends-nexts.ensures.0),
-      p.5,
-      same_levels (c.wide.ensures.0 ∙ d) (c.begin.ensures _),
-      p.6,
-    )
+pub overflow_add-count : goal.overflow_add-count
+overflow_add-count g c =
+    let few : c.loop-p.count ≤ c.loop-p.p = rw c.loop-p.invariant.counted (count_le _ c.loop-p.p) in
+    let one : c.from-count.result ≤ 1 = bit _ c.from-count.ensures in
+    omega arith
+
+pub loop-p-init : goal.loop-p-init
+loop-p-init g c = record {
+  roles = c.new-tables.ensures.0 ∙ c.wide-roles.ensures.0 ∙ c.role_count.ensures;
+  nexts = c.new-tables.ensures.1;
+  counted = sym (count_none _);
+  filled = filled_none _ _;
+}
+
+pub loop-p-preserved : goal.loop-p-preserved
+loop-p-preserved g c =
+    let (this, d, nexts) = c.part_for-part.ensures in
+    let v = c.loop-p.invariant in
+    record {
+      roles = d ∙ v.roles;
+      nexts = nexts ∙ v.nexts;
+      counted = count_part _ _ _ _ _ this v.counted (search rules);
+      filled = filled_by v.filled this c.wide-at.ensures.0 c.copy_from_slice.ensures.after (omega arith);
+    }
+
+pub returns : goal.returns
+returns g c = done (omega arith) c.loop-p.invariant.counted c.loop-p.invariant.filled
