@@ -150,6 +150,6 @@ module _ {F B : Type 0} {g : Mut F (ℕ × Unit {0}) B} {f : F} (P : ℕ → B �
 pub serves_array : {P : Type 0} {R : P → ℕ → P → Type 0} {Q : P → ℕ → Type 0} {p : P} (n : ℕ) →
     ((x : ℕ) (q : P) → R p x q → q ≡ p) → ((x : ℕ) → x < n → Q p x) → CallableAtEachTurn (index_steps n) R Q 0 p
 serves_array {P} {R} {Q} {p} n stays takes =
-    serves_by R (λ xs q. q ≡ p) (λ xs q x v j k. stays x v (subst (λ (y : P). R y x v) j k) ) (index_steps n) Q 0 p refl
+    serves_by R (λ xs q. q ≡ p) (λ xs q x v j k. stays x v (subst (λ (y : P). R y x v) j k)) (index_steps n) Q 0 p refl
     (λ xs t q x u yields next j.
     subst (λ (y : P). Q y x) (sym j) (takes x (let l = next.0 in let e = next.1 in omega arith)))
