@@ -13,8 +13,6 @@ use Rattle.reader.proofs.Trying.{wider, tried_refused, tried_least}
 use Rattle.reader.proofs.codes.try_codes.Invariants.{Turn}
 use Rattle.reader.proofs.codes.try_codes.Goals as goal
 use Rattle.reader.proofs.codes.try_codes.Goals.{then-rest-code-eq0, else-rest-code-eq0}
-use Rattle.reader.proofs.codes.try_codes.Goals.{else-loop-r-test, then-loop-r-test+then-rest-eq1}
-use Rattle.reader.proofs.codes.try_codes.Goals.{then-loop-r-test+else-rest-eq1+then-from-r}
 
 first : (x roles : ℕ) → Turn x roles x 0 0
 first x roles = record { counted = refl; upto = sym (rest_none x); yet = none_at_first }
@@ -43,8 +41,8 @@ module _ {x roles rest tried r : ℕ} (few : roles ≤ 8) (turn : Turn x roles r
       let bad : parameter_ok roles x ≡ false = rw same at (sym test ∙ ne_eqb _ _ other) in
       (sym bad, turn.counted ∙ (same ∙ sym (tried_refused roles x few bad)))
 
-  -- past the last turn, where all codes were tried unless the rest is 1
-  over : ((rest ≡ 1 → ⊥) → roles ≤ r) → (eqb rest 1 ≡ parameter_ok roles x) × (tried ≡ codes_tried roles x)
+  -- past the last turn
+  over : 8 ≤ r → (eqb rest 1 ≡ parameter_ok roles x) × (tried ≡ codes_tried roles x)
   over last = ⊎_elim one other (met_or_not (eqb rest 1))
     where
       one : eqb rest 1 ≡ true → (eqb rest 1 ≡ parameter_ok roles x) × (tried ≡ codes_tried roles x)
@@ -52,8 +50,7 @@ module _ {x roles rest tried r : ℕ} (few : roles ≤ 8) (turn : Turn x roles r
 
       other : eqb rest 1 ≡ false → (eqb rest 1 ≡ parameter_ok roles x) × (tried ≡ codes_tried roles x)
       other e =
-          let some : rest ≡ 1 → ⊥ = λ o. clash _ (eq-eqb _ _ o) e in
-          let (ok, count) = spent some (last some) in
+          let (ok, count) = spent (λ o. clash _ (eq-eqb _ _ o) e) (omega arith) in
           (e ∙ ok, count)
 
   -- one code more is tried
@@ -77,11 +74,17 @@ module _ {x roles rest tried r : ℕ} (few : roles ≤ 8) (turn : Turn x roles r
 pub loop-r-init : goal.loop-r-init
 loop-r-init c = first c.args.x c.args.roles
 
+pub returns-then-rest-eq1 : goal.returns-then-rest-eq1
+returns-then-rest-eq1 c = ended c.requires c.loop-r.invariant c.if-rest-eq1.true
+
+pub returns-then-from-r : goal.returns-then-from-r
+returns-then-from-r c = spent c.requires c.loop-r.invariant c.if-rest-eq1.false (omega arith)
+
 pub loop-r-preserved : goal.loop-r-preserved
 loop-r-preserved c =
     let few = c.requires in
     let l = c.loop-r in
-    let low : l.r < c.args.roles = omega (arith, c.from.ensures, c.if-from-r.false) in
+    let low : l.r < c.args.roles = omega arith in
     let left = c.if-rest-eq1.false in
     elim c.if-rest-code-eq0.branch [
       | then-rest-code-eq0 w ↦ divided few l.invariant low left
@@ -91,11 +94,4 @@ loop-r-preserved c =
     ]
 
 pub returns : goal.returns
-returns c =
-    let last : (c.loop-r.rest ≡ 1 → ⊥) → c.args.roles ≤ c.loop-r.r =
-    elim c.loop-r-test.branch [
-      | else-loop-r-test w ↦ λ some. omega arith
-      | then-loop-r-test+then-rest-eq1 w ↦ λ some. absurd (some w.if-rest-eq1.true)
-      | then-loop-r-test+else-rest-eq1+then-from-r w ↦ λ some. omega arith
-    ] in
-    over c.requires c.loop-r.invariant last
+returns c = over c.requires c.loop-r.invariant (omega arith)
