@@ -1,4 +1,5 @@
-// The least ends of groups, by the multiset of their roles.
+// The least ends of groups, by the multiset of their roles. Where there is none an end is 255: the tables keep a byte for
+// each, and an Option of one takes two.
 ghost use Rattle.std.specs.Prelude.{◌≡◌, ℕ, ◌+◌, ◌*◌, ◌≤◌, ◌<◌, length, get_or};
 ghost use Rattle.multisets.specs.Ends.{NextEnd, NextEnds, NextTable, Filled, Relaxed};
 ghost use Rattle.multisets.specs.Levels.{Pushing};
@@ -56,6 +57,7 @@ pub fn push(
         return;
     }
     let at = 8 * (end as usize);
+    // The role's number counts both lists and goes into the entry.
     for q in 0..d {
         relax(
             ends,

@@ -3,14 +3,16 @@ use Prim.Native.Nat.{ℕ, zero, suc, ◌+◌, ◌-◌, ◌^◌, ◌<◌, ◌≤�
 use mathlib.Core.Bool.{Bool, true, false, ◌&&◌, or-true}
 use mathlib.Core.Path.{◌≡◌, refl, sym, ap, ◌∙◌}
 use mathlib.Core.Logic.{inl, inr, ⊎_elim}
-use mathlib.Core.List.{List}
+use mathlib.Core.List.{List, [], ◌∷◌}
 use native.Mathlib.Omega.{arith}
 use native.Mathlib.Nat.{eq-or-lt_of_le, le_of_suc-le-suc, lt_of_lt_of_le, lt_irrefl}
 use native.Mathlib.Numerals.{add-one}
 use borrow.Author.Tests.{ne_eqb, eqb-false, leb-true, leb-false}
 use lib.Bits.{bit_and, bit_or}
 use lib.Dec.{eqb, leb, lit<}
-use lib.ListN.{get_or}
+use lib.ListN.{length, get_or, take, drop}
+use Rattle.std.specs.List.{fold, zip}
+use Rattle.std.proofs.lemmas.List.{length-take, length-drop, get_or-take, get_or-drop}
 use lib.Pow.{pow_mono}
 use Rattle.folds.specs.Sets.{in_set}
 use Rattle.folds.specs.Below.{any_below}
@@ -34,24 +36,41 @@ common x y ne =
     let (b, _, both) = any_some (λ r. in_set x r && in_set y r) n some in
     (b, and_left (in_set x b) (in_set y b) both, and_right (in_set x b) (in_set y b) both)
 
-module _ {sums roles by_sum by_set : List ℕ} {x : ℕ} where
-  pub some_none : SomeMet sums roles by_sum by_set x 0 0
-  some_none = record { has = λ i b l. absurd (omega arith) }
+-- a fold that joins what each pair of a sum and a set meets
+module _ (by_sum by_set : List ℕ) where
+  abbrev pub joined : ℕ → ℕ × ℕ → ℕ
+  joined all p = bit_or all (bit_and (get_or by_sum p.0 0) (get_or by_set p.1 0))
 
-  pub some_more : {n all : ℕ} → SomeMet sums roles by_sum by_set x n all →
-      SomeMet sums roles by_sum by_set x (n + 1)
-      (bit_or all (bit_and (get_or by_sum (get_or sums (x + n) 0) 0) (get_or by_set (get_or roles (x + n) 0) 0)))
-  some_more {n} {all} s = record {
-    has = λ i b l g h. in_or all _ b ∙ ⊎_elim
-        (λ q. rw (
-          in_and (get_or by_sum (get_or sums (x + n) 0) 0) (get_or by_set (get_or roles (x + n) 0) 0) b,
-          rw q at g,
-          rw q at h,
-        ) (or-true (in_set all b)))
-        (λ m. rw (s.has i b m g h) refl)
-        (eq-or-lt_of_le (le_of_suc-le-suc (rw add-one at l)));
+  joined_stays : (ps : List (ℕ × ℕ)) (all b : ℕ) → in_set all b ≡ true → in_set (fold joined all ps) b ≡ true
+  joined_stays [] all b h = h
+  joined_stays (p ∷ ps) all b h = joined_stays ps (joined all p) b (in_or all _ b ∙ rw h refl)
+
+  joined_each : (xs ys : List ℕ) (all i b : ℕ) → i < length xs → i < length ys →
+      in_set (get_or by_sum (get_or xs i 0) 0) b ≡ true → in_set (get_or by_set (get_or ys i 0) 0) b ≡ true →
+      in_set (fold joined all (zip xs ys)) b ≡ true
+  joined_each [] ys all i b l m g h = absurd (omega arith)
+  joined_each (x ∷ xs) [] all i b l m g h = absurd (omega arith)
+  joined_each (x ∷ xs) (y ∷ ys) all zero b l m g h =
+      let both : in_set (bit_and (get_or by_sum x 0) (get_or by_set y 0)) b ≡ true =
+      rw (in_and (get_or by_sum x 0) (get_or by_set y 0) b, g, h) refl in
+      joined_stays (zip xs ys) (joined all (x, y)) b (in_or all _ b ∙ rw both (or-true (in_set all b)))
+  joined_each (x ∷ xs) (y ∷ ys) all (suc i) b l m g h =
+      joined_each xs ys (joined all (x, y)) i b (omega arith) (omega arith) g h
+
+  -- of the n places from x on
+  pub some_joined : (sums roles : List ℕ) (x n : ℕ) → x + n ≤ length sums → x + n ≤ length roles →
+      SomeMet sums roles by_sum by_set x n (fold joined 0 (zip (take n (drop x sums)) (take n (drop x roles))))
+  some_joined sums roles x n s r = record {
+    has = λ i b l g h. joined_each (take n (drop x sums)) (take n (drop x roles)) 0 i b (long sums s i l) (long roles r i l) (rw (there sums i l) g) (rw (there roles i l) h);
   }
+    where
+      there : (xs : List ℕ) (i : ℕ) → i < n → get_or (take n (drop x xs)) i 0 ≡ get_or xs (x + i) 0
+      there xs i l = get_or-take n (drop x xs) i 0 l ∙ get_or-drop x xs i 0
 
+      long : (xs : List ℕ) → x + n ≤ length xs → (i : ℕ) → i < n → i < length (take n (drop x xs))
+      long xs h i l = omega (arith, length-take n (drop x xs), length-drop x xs)
+
+module _ {sums roles by_sum by_set : List ℕ} {x : ℕ} where
   -- where they miss the row, no place meets it
   unmet : {all : ℕ} (row : ℕ) → SomeMet sums roles by_sum by_set x 8 all → bit_and row all ≡ 0 → (i : ℕ) → i < 8 →
       met_by row by_sum by_set (get_or sums (x + i) 0) (get_or roles (x + i) 0) ≡ false

@@ -1,7 +1,8 @@
 // The fewest entries that meet a condition, told by masks of clauses.
 #![tactic(auto)]
 
-ghost use Rattle.std.specs.Prelude.{◌≡◌, List, ℕ, suc, ◌+◌, ◌*◌, ◌≤◌, length};
+ghost use Rattle.std.specs.Prelude.{◌≡◌, List, ℕ, suc, ◌+◌, ◌*◌, ◌≤◌, length, get_or};
+ghost use Rattle.std.specs.Int.Bits.{bit_and};
 ghost use Rattle.multisets.specs.Ranks.{first};
 ghost use Rattle.multisets.specs.Ends.{NextEnds};
 ghost use Rattle.multisets.specs.Values.{Held, sum_at};
@@ -18,6 +19,16 @@ use multisets::ranks::{first_in, start_in};
 pub struct Masks {
     pub sums: [u64; 256],
     pub sets: [u64; 256],
+}
+
+impl Masks {
+    // The clauses that the sum and the set meet both.
+    fn met(&self, sum: u8, set: u8) -> u64
+        requires { (length self.now.sums ≡ 256) × (length self.now.sets ≡ 256) }
+        ensures { result ≡ bit_and (get_or self.now.sums sum 0) (get_or self.now.sets set 0) }
+    {
+        self.sums[sum as usize] & self.sets[set as usize]
+    }
 }
 
 // Some clause of the row is met by the sum and by the set of place x, and it is reached.
@@ -52,11 +63,8 @@ fn some_met(sums: &[u8], roles: &[u8], masks: &Masks, x: usize) -> u64
         × (length masks.now.sums ≡ 256) × (length masks.now.sets ≡ 256) }
     ensures { SomeMet sums.now roles.now masks.now.sums masks.now.sets x 8 result }
 {
-    let mut all: u64 = 0;
-    for i in 0..8usize {
-        all = all | (masks.sums[sums[x + i] as usize] & masks.sets[roles[x + i] as usize]);
-    }
-    all
+    let clauses = |all: u64, (sum, set): (&u8, &u8)| all | masks.met(*sum, *set);
+    sums[x..x + 8].iter().zip(&roles[x..x + 8]).fold(0, clauses)
 }
 
 // The same for the eight places from x on, which are looked at one by one only where some clause of the row is met.
