@@ -15,5 +15,5 @@ returns c =
     let xs : List ℕ = take (a.x + 8 - a.x) (drop a.x a.sums.now) in
     let ys : List ℕ = take (a.x + 8 - a.x) (drop a.x a.roles.now) in
     let is = fold_from_yields_List _ (joined m.sums m.sets) 0 c.fold.result c.fold.ensures.ran
-        (YieldsList-from_zip (YieldsList-from_slice xs cc) (YieldsList-from_slice ys cc)) (λ s p t q k. search rules) in
+    (YieldsList-from_zip (YieldsList-from_slice xs cc) (YieldsList-from_slice ys cc)) (λ s p t q k. search rules) in
     rw (is, eight) (some_joined m.sums m.sets a.sums.now a.roles.now a.x 8 p.0 p.1)
