@@ -80,10 +80,7 @@ pub fn role_count(base: &[u8]) -> u8
 fn length_bad(base: &[u8]) -> bool
     ensures { result ≡ length_bad base.now }
 {
-    if base.len() < 36 {
-        return true;
-    }
-    2364 < base.len()
+    base.len() < 36 || 2364 < base.len()
 }
 
 // Refusal 2.
@@ -93,12 +90,7 @@ fn letters_bad(base: &[u8]) -> bool
 {
     let letters = b"LCAP";
     let at = base.len() - 36 + 32;
-    for i in 0..4usize {
-        if base[at + i] != letters[i] {
-            return true;
-        }
-    }
-    false
+    (0..4usize).any(|i| base[at + i] != letters[i])
 }
 
 // The three zero bytes after R: with R as the lowest byte, the number in the four is below 256.
@@ -114,6 +106,7 @@ fn tables_bad(base: &[u8]) -> bool
     ensures { result ≡ tables_bad base.now }
 {
     let mut at: usize = 0;
+    // By number: the trailer's place of table t is read too, and each table's end is where the next has to start.
     for t in 0..7usize {
         let n = table_count(base, t);
         let room = room_of(t);

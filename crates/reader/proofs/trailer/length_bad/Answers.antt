@@ -7,6 +7,6 @@ pub returns-then-base-lt36 : goal.returns-then-base-lt36
 unfolding length_bad
 returns-then-base-lt36 c = rw (lt-ltb _ _ c.if-base-lt36.true)
 
-pub returns : goal.returns
+pub returns-else-base-lt36 : goal.returns-else-base-lt36
 unfolding length_bad
-returns c = rw (le-ltb _ _ c.if-base-lt36.false)
+returns-else-base-lt36 c = rw (le-ltb _ _ c.if-base-lt36.false)
