@@ -1,80 +1,76 @@
--- A `fold` that gathers sets, over those of the numbers below n that pass a test: that its closure may be called, and
--- what is in the set.
+-- A `fold` over the numbers below n: that its closure may be called, and what its result is, turn by turn.
 use Prim.Native.Nat.{ℕ, zero, suc, ◌+◌, ◌<◌}
-use Rattle.std.proofs.Common.{List, Option, Some, ◌∷◌}
+use Rattle.std.proofs.Common.{List, Some}
 use mathlib.Core.Bool.{Bool, true, false, ◌&&◌, cond, or-false}
 use mathlib.Core.Path.{◌≡◌, refl, sym, ap, subst, ◌∙◌}
 use native.Mathlib.Omega.{arith}
 use denote.Param.Members.{Mut}
 use lib.Bits.{bit_or}
-use lib.ListN.{length, get_or}
+use lib.ListN.{length}
 use Rattle.std.specs.Fn.{Called, Takes}
 use Rattle.std.specs.Iterator.{Yields, CallableAtEachTurn, FoldTurn, FoldsItems}
-use Rattle.std.specs.List.{fold, filter, range_with_len}
+use Rattle.std.specs.declared.ops.Range.{Range}
+use Rattle.std.specs.List.{fold, range_with_len}
+use Rattle.std.proofs.iter.Yields.{nat_range_steps}
 use Rattle.std.proofs.lemmas.Fn.{serves_by}
-use Rattle.std.proofs.lemmas.List.Elements.{All-get_or, All-filter}
 use Rattle.std.proofs.lemmas.List.FromFn.{length-range_with_len, get_or-range_with_len}
-use Rattle.std.proofs.lemmas.Iterator.{YieldsList}
+use Rattle.std.proofs.lemmas.Iterator.{YieldsList-from_range}
 use Rattle.std.proofs.lemmas.Iterator.Consumers.{YieldsList-turn, fold_from_yields_List}
 use Rattle.folds.specs.Below.{any_below}
 use Rattle.folds.specs.Sets.{in_set}
 use Rattle.folds.proofs.Tests.{any_none, any_next}
 use Rattle.folds.proofs.Sets.{in_none, in_or}
 
--- those of the numbers below n that pass the test
-abbrev pub sifted : (ℕ → Bool) → ℕ → List ℕ
-sifted test n = filter test (range_with_len 0 n)
-
--- each of them is below n
-sifted_low : (test : ℕ → Bool) (n i d : ℕ) → i < length (sifted test n) → get_or (sifted test n) i d < n
-sifted_low test n i d l =
-    All-get_or (λ x. x < n) (sifted test n) i d l (All-filter test (λ x. x < n) (range_with_len 0 n) low)
-  where
-    low : (k d : ℕ) → k < length (range_with_len 0 n) → get_or (range_with_len 0 n) k d < n
-    low k d m =
-        let long = length-range_with_len 0 n in
-        let at = get_or-range_with_len 0 n k d (omega (arith, m, long)) in
-        omega (arith, m, long, at)
-
-module _ (test : ℕ → Bool) (n : ℕ) {S F : Type 0} {steps : S → Option ℕ → S → Type 0} {s : S}
-    (road : YieldsList steps (λ x. x) s (sifted test n)) {g : Mut F (ℕ × (ℕ × Unit {0})) ℕ} {f : F} where
-  -- the closure stays as it is, and may be called at each number below n
-  pub fold_callable : {first : ℕ} → ((a x b : ℕ) (q : F) → Called g f (a, (x, tt)) b q → q ≡ f) →
-      ((a x : ℕ) → x < n → Takes g f (a, (x, tt))) →
-      CallableAtEachTurn {P = F × ℕ} steps (FoldTurn g) (λ p x. Takes g p.0 (p.1, (x, tt))) s (f, first)
+module _ {F C : Type 0} {g : Mut F (C × (ℕ × Unit {0})) C} {s : Range ℕ} {f : F} (n : ℕ)
+    (whole : s ≡ record { start = 0; end = n }) where
+  -- the closure stays as it is, and may be called at each number
+  pub fold_callable : {first : C} → ((a : C) (x : ℕ) (b : C) (q : F) → Called g f (a, (x, tt)) b q → q ≡ f) →
+      ((a : C) (x : ℕ) → x < n → Takes g f (a, (x, tt))) →
+      CallableAtEachTurn {P = F × C} nat_range_steps (FoldTurn g) (λ p x. Takes g p.0 (p.1, (x, tt))) s (f, first)
   fold_callable {first} stays may =
       serves_by (FoldTurn g) (λ _ p. p.0 ≡ f)
       (λ xs p x q e r. stays p.1 x q.1 q.0 (subst (λ h. Called g h (p.1, (x, tt)) q.1 q.0) e r))
-      steps (λ p x. Takes g p.0 (p.1, (x, tt))) s (f, first) refl
+      nat_range_steps (λ p x. Takes g p.0 (p.1, (x, tt))) s (f, first) refl
       (λ xs t p x u y step e. subst (λ h. Takes g h (p.1, (x, tt))) (sym e) (may p.1 x (below xs t x u y step)))
     where
-      below : (xs : List ℕ) (t : S) (x : ℕ) (u : S) → Yields steps s xs t → steps t (Some x) u → x < n
+      below : (xs : List ℕ) (t : Range ℕ) (x : ℕ) (u : Range ℕ) → Yields nat_range_steps s xs t →
+          nat_range_steps t (Some x) u → x < n
       below xs t x u y step =
-          let turn = YieldsList-turn road xs t y (Some x) u x refl step in
-          let l = sifted_low test n (length xs) x turn.0 in
-          omega (arith, turn.1, l)
+          let turn = YieldsList-turn (YieldsList-from_range 0 n n whole (omega arith)) xs t y (Some x) u x refl step in
+          let l = length-range_with_len 0 n in
+          let at = get_or-range_with_len 0 n (length xs) x (omega (arith, turn.0, l)) in
+          omega (arith, turn.0, turn.1, l, at)
 
-  -- a number is in what is gathered if it is in a set that was added
-  pub fold_gathers : (more : ℕ → ℕ) (set : ℕ) →
-      ((a x b : ℕ) (q : F) → Called g f (a, (x, tt)) b q → (q ≡ f) × (b ≡ bit_or a (more x))) →
-      FoldsItems steps g s f 0 set → (j : ℕ) → in_set set j ≡ any_below n (λ i. test i && in_set (more i) j)
-  fold_gathers more set each ran j =
-      ap (λ x. in_set x j) (fold_from_yields_List _ (λ a x. bit_or a (more x)) 0 set ran road each)
-      ∙ from 0 n 0 (omega arith) (in_none j ∙ sym (any_none _))
-    where
-      found : ℕ → Bool
-      found i = any_below i (λ i. test i && in_set (more i) j)
+-- what holds before the first turn, and through each, holds at the end
+folded : {C : Type 0} (h : C → ℕ → C) (J : ℕ → C → Type 0) (n : ℕ) →
+    ((a : C) (x : ℕ) → x < n → J x a → J (x + 1) (h a x)) → (k m : ℕ) (a : C) → k + m ≡ n → J k a →
+    J n (fold h a (range_with_len k m))
+folded h J n step k zero a e here = subst (λ i. J i a) (omega arith) here
+folded h J n step k (suc m) a e here =
+    folded h J n step (k + 1) m (h a k) (omega arith) (step a k (omega arith) here)
 
-      from : (k m set : ℕ) → k + m ≡ n → in_set set j ≡ found k →
-          in_set (fold (λ a x. bit_or a (more x)) set (filter test (range_with_len k m))) j ≡ found n
-      from k zero set e here = subst (λ i. in_set set j ≡ found i) (omega arith) here
-      from k (suc m) set e here = by (test k) refl (λ s h. from (k + 1) m s (omega arith) h)
-        where
-          rest : List ℕ
-          rest = filter test (range_with_len (k + 1) m)
+-- the sets that each turn adds where its test is met
+abbrev pub adds : (ℕ → Bool) → (ℕ → ℕ) → ℕ → ℕ → ℕ
+adds test more set i = cond (test i) (bit_or set (more i)) set
 
-          by : (t : Bool) → test k ≡ t →
-              ((s : ℕ) → in_set s j ≡ found (k + 1) → in_set (fold (λ a x. bit_or a (more x)) s rest) j ≡ found n) →
-              in_set (fold (λ a x. bit_or a (more x)) set (cond t (k ∷ rest) rest)) j ≡ found n
-          by true met later = later (bit_or set (more k)) (rw (any_next, met, in_or, here))
-          by false not later = later set (rw (any_next, not, or-false) here)
+-- a number is in what is gathered if it is in a set that was added
+gathers : (test : ℕ → Bool) (more : ℕ → ℕ) (n j : ℕ) →
+    in_set (fold (adds test more) 0 (range_with_len 0 n)) j ≡ any_below n (λ i. test i && in_set (more i) j)
+gathers test more n j =
+    folded (adds test more) (λ i set. in_set set j ≡ any_below i (λ i. test i && in_set (more i) j)) n
+    (λ set i l here. by set i here (test i) refl) 0 n 0 (omega arith) (in_none j ∙ sym (any_none _))
+  where
+    by : (set i : ℕ) → in_set set j ≡ any_below i (λ i. test i && in_set (more i) j) → (t : Bool) → test i ≡ t →
+        in_set (adds test more set i) j ≡ any_below (i + 1) (λ i. test i && in_set (more i) j)
+    by set i here true e = rw (e, any_next, e, in_or, here)
+    by set i here false e = rw (e, any_next, e, or-false) here
+
+-- so it is of a `fold` over the numbers below n
+pub fold_gathers : {F : Type 0} {g : Mut F (ℕ × (ℕ × Unit {0})) ℕ} {s : Range ℕ} {f : F} (test : ℕ → Bool)
+    (more : ℕ → ℕ) (n : ℕ) (set : ℕ) → s ≡ record { start = 0; end = n } →
+    ((a x b : ℕ) (q : F) → Called g f (a, (x, tt)) b q → (q ≡ f) × (b ≡ adds test more a x)) →
+    FoldsItems nat_range_steps g s f 0 set → (j : ℕ) → in_set set j ≡ any_below n (λ i. test i && in_set (more i) j)
+fold_gathers test more n set whole each ran j =
+    ap (λ x. in_set x j)
+    (fold_from_yields_List _ (adds test more) 0 set ran (YieldsList-from_range 0 n n whole (omega arith)) each)
+    ∙ gathers test more n j

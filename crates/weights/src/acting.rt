@@ -16,9 +16,13 @@ pub fn acting_roles(base: &[u8], juniors: [u8; 8], user: usize) -> u8
 {
     let users = reader::trailer::part(base, reader::Table::Users);
     let roles = reader::trailer::role_count(base);
-    (0..8u8)
-        .filter(|s| reader::codes::held_by(users, roles, user, *s as usize))
-        .fold(0, |set, s| set | seniority::with_juniors(s, juniors))
+    (0..8u8).fold(0, |set, s| {
+        if reader::codes::held_by(users, roles, user, s as usize) {
+            set | seniority::with_juniors(s, juniors)
+        } else {
+            set
+        }
+    })
 }
 
 // Inner: the user may act in the role; neither need be there.

@@ -49,7 +49,11 @@ pub fn holding(c: &[u8], at: Context) -> u32
     requires { contexts_bad c.now ≡ false }
     ensures { Holding at c.now result }
 {
-    (0..c.len() / 16)
-        .filter(|i| clause_holds(c, *i, at))
-        .fold(0, |s, i| s | sets::bit(c[16 * i]))
+    (0..c.len() / 16).fold(0, |s, i| {
+        if clause_holds(c, i, at) {
+            s | sets::bit(c[16 * i])
+        } else {
+            s
+        }
+    })
 }

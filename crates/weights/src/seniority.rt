@@ -16,14 +16,19 @@ pub fn with_juniors(j: u8, known: [u8; 8]) -> u8
     sets::role_bit(j) | known[j as usize]
 }
 
-// The juniors of role s, from the known juniors of the roles with higher numbers.
+// The juniors of role s, from the known juniors of the roles with higher numbers. One closure: with a `filter` in front
+// 28 records take half as many instructions again.
 fn juniors_of(h: &[u8], s: u8, known: [u8; 8]) -> u8
     requires { hierarchy_bad 8 h.now ≡ false }
     ensures { (j : ℕ) → in_set result j ≡ any_below (length h.now / 2) (next_junior h.now known s j) }
 {
-    (0..h.len() / 2)
-        .filter(|i| h[2 * *i] == s)
-        .fold(0, |set, i| set | with_juniors(h[2 * i + 1], known))
+    (0..h.len() / 2).fold(0, |set, i| {
+        if h[2 * i] == s {
+            set | with_juniors(h[2 * i + 1], known)
+        } else {
+            set
+        }
+    })
 }
 
 // Inner: the juniors of each role, by a table H that passed the check; a senior's number is smaller, so the highest

@@ -1,7 +1,5 @@
 -- The roles gathered are those held, each with its juniors.
-use Rattle.std.proofs.Common.{◌≡◌, ℕ, ◌^◌, List, ◌&&◌, get_or, bit_or, ◌∙◌, arith, rules, tests}
-use Rattle.std.proofs.lemmas.Iterator.{YieldsList-from_range, serves_from_Range}
-use Rattle.std.proofs.lemmas.Iterator.Consumers.{YieldsList-from_filter}
+use Rattle.std.proofs.Common.{◌≡◌, ℕ, ◌^◌, List, ◌&&◌, get_or, bit_or, ◌∙◌, rules, tests}
 use Rattle.folds.specs.Below.{any_below}
 use Rattle.folds.specs.Sets.{in_set, set_below}
 use Rattle.folds.proofs.Tests.{any_same}
@@ -33,27 +31,18 @@ part-users-requires c = accepted_frame _ c.requires.0
 pub role_count-roles-requires : goal.role_count-roles-requires
 role_count-roles-requires c = (framed _ (accepted_frame _ c.requires.0)).long
 
-pub fold-requires-clause-can : goal.fold-requires-clause-can
-fold-requires-clause-can c =
-    let few = (roles_range _ (accepted_frame _ c.requires.0)).1 in
-    let is = c.role_count-roles.ensures in
-    (tt, tt, serves_from_Range (λ x q k. search (rules, tests)) (λ x lo hi. search rules))
-
 pub fold-requires-clause-callable : goal.fold-requires-clause-callable
 fold-requires-clause-callable c =
-    let held = held_by c.role_count-roles.result c.part-users.result.now c.args.user in
-    fold_callable held 8
-    (YieldsList-from_filter _ held (YieldsList-from_range 0 8 8 (cc) (omega arith)) c.filter.ensures.closure
-    (λ x b q k. search (rules, tests)))
-    (λ a x b q k. search (rules, tests)) (λ a x l. search rules)
+    fold_callable 8 (cc) (λ a x b q k. search (rules, tests))
+    (λ a x l. let few = roles_range _ (accepted_frame _ c.requires.0) in
+    let is = c.role_count-roles.ensures in
+    search rules)
 
 pub returns : goal.returns
 returns c =
     let R = c.role_count-roles.result in
     let us = c.part-users.result.now in
     finished R us c.args.juniors c.args.user _
-    (fold_gathers (held_by R us c.args.user) 8
-    (YieldsList-from_filter _ (held_by R us c.args.user) (YieldsList-from_range 0 8 8 (cc) (omega arith)) c.filter.ensures.closure
-    (λ x b q k. search (rules, tests)))
-    (λ s. bit_or (2 ^ s) (get_or c.args.juniors s 0)) _ (λ a x b q k. search (rules, tests)) c.fold.ensures.ran)
+    (fold_gathers (held_by R us c.args.user) (λ s. bit_or (2 ^ s) (get_or c.args.juniors s 0)) 8 _ (cc)
+    (λ a x b q k. search (rules, tests)) c.fold.ensures.ran)
     _ c.requires.0 c.requires.1 c.part-users.ensures c.role_count-roles.ensures

@@ -2,8 +2,6 @@
 use borrow.Author.Tests.{ne_eqb}
 use Rattle.std.proofs.Common.{◌≡◌, ℕ, ◌&&◌, ◌/◌, ◌^◌, List, length, eqb, rules, tests, arith, ◌∙◌}
 use Rattle.std.proofs.Math.Bool.{and_comm}
-use Rattle.std.proofs.lemmas.Iterator.{YieldsList-from_range, serves_from_Range}
-use Rattle.std.proofs.lemmas.Iterator.Consumers.{YieldsList-from_filter}
 use Rattle.folds.specs.Sets.{in_set}
 use Rattle.folds.specs.Below.{any_below}
 use Rattle.folds.proofs.Bools.{eqb_sym}
@@ -29,33 +27,17 @@ held at c s has = record {
       (has n ∙ any_same _ (clause_of_holds at c n) (length c / 16) (λ i m. rw (in_one, eqb_sym) (and_comm (context_clause_holds at c i) (eqb (context_number c i) n))));
 }
 
-pub fold-requires-clause-can : goal.fold-requires-clause-can
-fold-requires-clause-can c =
-    let a = c.args in (
-      tt,
-      tt,
-      serves_from_Range (λ x q k. search (rules, tests)) (λ x lo hi.
-          let end : c.filter.result.iter.end ≡ length a.c.now / 16 = (cc) in
-          let few = (context_fine 0 0 a.c.now x c.requires (omega arith)).at_most in
-          search rules),
-    )
-
 pub fold-requires-clause-callable : goal.fold-requires-clause-callable
 fold-requires-clause-callable c =
-    let a = c.args in
-    let n = length a.c.now / 16 in
-    fold_callable (context_clause_holds a.at a.c.now) n
-    (YieldsList-from_filter _ _ (YieldsList-from_range 0 n n (cc) (omega arith)) c.filter.ensures.closure
-    (λ x b q k. search (rules, tests)))
-    (λ a x b q k. search (rules, tests))
-    (λ s x l. let low = (context_fine 0 0 a.c.now x c.requires l).number in search rules)
+    fold_callable (length c.args.c.now / 16) (cc) (λ a x b q k. search (rules, tests))
+    (λ a x l. let fine = context_fine 0 0 c.args.c.now x c.requires l in
+    let few = fine.at_most in
+    let low = fine.number in
+    search rules)
 
 pub returns : goal.returns
 returns c =
     let a = c.args in
-    let n = length a.c.now / 16 in
     held a.at a.c.now _
-    (fold_gathers (context_clause_holds a.at a.c.now) n
-    (YieldsList-from_filter _ _ (YieldsList-from_range 0 n n (cc) (omega arith)) c.filter.ensures.closure
-    (λ x b q k. search (rules, tests)))
-    (λ i. 2 ^ context_number a.c.now i) _ (λ a x b q k. search (rules, tests)) c.fold.ensures.ran)
+    (fold_gathers (context_clause_holds a.at a.c.now) (λ i. 2 ^ context_number a.c.now i)
+    (length a.c.now / 16) _ (cc) (λ a x b q k. search (rules, tests)) c.fold.ensures.ran)
