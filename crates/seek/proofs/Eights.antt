@@ -5,8 +5,7 @@ use mathlib.Core.Path.{◌≡◌, refl, sym, ap, ◌∙◌}
 use mathlib.Core.Logic.{inl, inr, ⊎_elim}
 use mathlib.Core.List.{List, [], ◌∷◌}
 use native.Mathlib.Omega.{arith}
-use native.Mathlib.Nat.{eq-or-lt_of_le, le_of_suc-le-suc, lt_of_lt_of_le, lt_irrefl}
-use native.Mathlib.Numerals.{add-one}
+use native.Mathlib.Nat.{lt_of_lt_of_le, lt_irrefl}
 use borrow.Author.Tests.{ne_eqb, eqb-false, leb-true, leb-false}
 use lib.Bits.{bit_and, bit_or}
 use lib.Dec.{eqb, leb, lit<}
