@@ -60,7 +60,10 @@ module _ (by_sum by_set : List ℕ) where
   pub some_joined : (sums roles : List ℕ) (x n : ℕ) → x + n ≤ length sums → x + n ≤ length roles →
       SomeMet sums roles by_sum by_set x n (fold joined 0 (zip (take n (drop x sums)) (take n (drop x roles))))
   some_joined sums roles x n s r = record {
-    has = λ i b l g h. joined_each (take n (drop x sums)) (take n (drop x roles)) 0 i b (long sums s i l) (long roles r i l) (rw (there sums i l) g) (rw (there roles i l) h);
+    has = λ i b l g h.
+        let summed = rw (there sums i l) g in
+        let set = rw (there roles i l) h in
+        joined_each (take n (drop x sums)) (take n (drop x roles)) 0 i b (long sums s i l) (long roles r i l) summed set;
   }
     where
       there : (xs : List ℕ) (i : ℕ) → i < n → get_or (take n (drop x xs)) i 0 ≡ get_or xs (x + i) 0

@@ -20,7 +20,8 @@ pub struct Masks {
     pub sets: [u64; 256],
 }
 
-// A level's places, with their ends, sums and sets of roles; and the masks and the row that they are looked through for.
+// A level's places, with their ends, sums and sets of roles; and the masks and the row for which they are looked
+// through.
 #[derive(Drop)]
 struct Level<'a> {
     ends: &'a [u8],
@@ -151,6 +152,7 @@ pub fn search<const ROWS: usize, const PLACES: usize>(
         × ((sets : List ℕ) → NextEnds sets tables.old.nexts →
         AnsweredWith sets w placed (by_masks rows.now masks.now.sums masks.now.sets) last result) }
 {
+    // Each level changes the tables, so these are turns of a loop and no chain.
     for n in 0..last + 1 {
         if let Some(at) = try_level(tables, masks, rows[n], end, n, w, placed) {
             let group = back::group(&tables.ends, &tables.from, n, at);
