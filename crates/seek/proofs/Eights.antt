@@ -61,8 +61,8 @@ module _ (by_sum by_set : List ℕ) where
       SomeMet sums roles by_sum by_set x n (fold joined 0 (zip (take n (drop x sums)) (take n (drop x roles))))
   some_joined sums roles x n s r = record {
     has = λ i b l g h.
-        let summed = rw (there sums i l) g in
-        let set = rw (there roles i l) h in
+        let summed : in_set (get_or by_sum (get_or (take n (drop x sums)) i 0) 0) b ≡ true = rw (there sums i l) g in
+        let set : in_set (get_or by_set (get_or (take n (drop x roles)) i 0) 0) b ≡ true = rw (there roles i l) h in
         joined_each (take n (drop x sums)) (take n (drop x roles)) 0 i b (long sums s i l) (long roles r i l) summed set;
   }
     where
