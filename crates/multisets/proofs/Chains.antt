@@ -1,16 +1,14 @@
 -- What an array holds whose elements a closure makes.
 use Prim.Native.Nat.{ℕ, zero, suc, ◌+◌, ◌<◌, ◌≤◌}
-use mathlib.Core.Path.{◌≡◌, sym, subst, refl}
+use mathlib.Core.Path.{◌≡◌, sym, subst}
 use mathlib.Core.Logic.{⊎_elim}
 use mathlib.Core.List.{List}
 use native.Mathlib.Nat.{eq-or-lt_of_le}
 use native.Mathlib.Omega.{arith}
 use denote.Param.Members.{Mut}
 use lib.ListN.{get_or}
-use Rattle.std.specs.Array.{IsFromFnResult, IsFromFnResultFrom, index_steps}
+use Rattle.std.specs.Array.{IsFromFnResult, IsFromFnResultFrom}
 use Rattle.std.specs.Fn.{Called}
-use Rattle.std.specs.Iterator.{CallableAtEachTurn}
-use Rattle.std.proofs.lemmas.Fn.{serves_by}
 
 module _ {F B : Type 0} {g : Mut F (ℕ × Unit {0}) B} {f : F} (P : ℕ → B → Type 0) (ys : List B) where
   each_from : (i n : ℕ) → ((k : ℕ) (y : B) (q : F) → k < i + n → Called g f (k, tt) y q → (q ≡ f) × P k y) →
@@ -29,11 +27,3 @@ module _ {F B : Type 0} {g : Mut F (ℕ × Unit {0}) B} {f : F} (P : ℕ → B �
       (k : ℕ) (d : B) → k < n → P k (get_or ys k d)
   made_each n made h k d l =
       each_from 0 n (λ j y q b. h j y q (omega arith)) made.each k d (omega arith) (omega arith)
-
--- the making of an array may call a closure that stays as it is and takes each number below n
-pub serves_array : {P : Type 0} {R : P → ℕ → P → Type 0} {Q : P → ℕ → Type 0} {p : P} (n : ℕ) →
-    ((x : ℕ) (q : P) → R p x q → q ≡ p) → ((x : ℕ) → x < n → Q p x) → CallableAtEachTurn (index_steps n) R Q 0 p
-serves_array {P} {R} {Q} {p} n stays takes =
-    serves_by R (λ xs q. q ≡ p) (λ xs q x v j k. stays x v (subst (λ (y : P). R y x v) j k)) (index_steps n) Q 0 p refl
-    (λ xs t q x u yields next j.
-    subst (λ (y : P). Q y x) (sym j) (takes x (let l = next.0 in let e = next.1 in omega arith)))

@@ -87,9 +87,9 @@ module _ (d k x c : ℕ) (nexts ends : List ℕ) where
       let same : facts_of a ≡ facts_of b = Σ_prop_path facts_prop (same_triple (a.n, a.m, a.q) (b.n, b.m, b.q) one) in
       ap came_of same
 
-pub Laid-prop : (d known : ℕ) (nexts t ends from roles sums : List ℕ) →
+pub Laid-prop : {d known : ℕ} {nexts t ends from roles sums : List ℕ} →
     IsProp (Laid d known nexts t ends from roles sums)
-Laid-prop d known nexts t ends from roles sums a b =
+Laid-prop {d} {known} {nexts} {t} {ends} {from} {roles} {sums} a b =
     let one : (k x c : ℕ) → IsProp (Came d nexts k ends x c) = λ k x c. Came-prop d k x c nexts ends a.most in
     let all : IsProp (Laid d known nexts t ends from roles sums) = hlevel (props, one) in
     all a b

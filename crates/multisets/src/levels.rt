@@ -20,7 +20,7 @@ pub struct LevelTables<const ROWS: usize, const PLACES: usize> {
     pub from: [u16; PLACES],
     pub roles: [u8; PLACES],
     pub sums: [u8; PLACES],
-    pub ghost laid: { Laid d known nexts rows ends from roles sums } by { Laid-prop d known nexts rows ends from roles sums },
+    pub ghost laid: { Laid d known nexts rows ends from roles sums } by { Laid-prop },
 }
 
 impl<const ROWS: usize, const PLACES: usize> LevelTables<ROWS, PLACES> {

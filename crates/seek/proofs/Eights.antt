@@ -5,8 +5,7 @@ use mathlib.Core.Path.{◌≡◌, refl, sym, ap, ◌∙◌}
 use mathlib.Core.Logic.{inl, inr, ⊎_elim}
 use mathlib.Core.List.{List, [], ◌∷◌}
 use native.Mathlib.Omega.{arith}
-use native.Mathlib.Nat.{eq-or-lt_of_le, le_of_suc-le-suc, lt_of_lt_of_le, lt_irrefl}
-use native.Mathlib.Numerals.{add-one}
+use native.Mathlib.Nat.{lt_of_lt_of_le, lt_irrefl}
 use borrow.Author.Tests.{ne_eqb, eqb-false, leb-true, leb-false}
 use lib.Bits.{bit_and, bit_or}
 use lib.Dec.{eqb, leb, lit<}
@@ -61,7 +60,10 @@ module _ (by_sum by_set : List ℕ) where
   pub some_joined : (sums roles : List ℕ) (x n : ℕ) → x + n ≤ length sums → x + n ≤ length roles →
       SomeMet sums roles by_sum by_set x n (fold joined 0 (zip (take n (drop x sums)) (take n (drop x roles))))
   some_joined sums roles x n s r = record {
-    has = λ i b l g h. joined_each (take n (drop x sums)) (take n (drop x roles)) 0 i b (long sums s i l) (long roles r i l) (rw (there sums i l) g) (rw (there roles i l) h);
+    has = λ i b l g h.
+        let summed : in_set (get_or by_sum (get_or (take n (drop x sums)) i 0) 0) b ≡ true = rw (there sums i l) g in
+        let set : in_set (get_or by_set (get_or (take n (drop x roles)) i 0) 0) b ≡ true = rw (there roles i l) h in
+        joined_each (take n (drop x sums)) (take n (drop x roles)) 0 i b (long sums s i l) (long roles r i l) summed set;
   }
     where
       there : (xs : List ℕ) (i : ℕ) → i < n → get_or (take n (drop x xs)) i 0 ≡ get_or xs (x + i) 0

@@ -1,13 +1,12 @@
 // The fewest entries that meet a condition, told by masks of clauses.
 #![tactic(auto)]
 
-ghost use Rattle.std.specs.Prelude.{◌≡◌, List, ℕ, suc, ◌+◌, ◌*◌, ◌≤◌, length, get_or};
-ghost use Rattle.std.specs.Int.Bits.{bit_and};
+ghost use Rattle.std.specs.Prelude.{◌≡◌, List, ℕ, suc, ◌+◌, ◌*◌, ◌≤◌};
 ghost use Rattle.multisets.specs.Ranks.{first};
 ghost use Rattle.multisets.specs.Ends.{NextEnds};
 ghost use Rattle.multisets.specs.Values.{Held, sum_at};
-ghost use Rattle.seek.specs.Search.{Tables, met_by, by_masks, met_at, SomeMet, FoundAt};
-ghost use Rattle.seek.specs.Search.{Ready, TriedWith};
+ghost use Rattle.seek.specs.Search.{met_by, by_masks, SomeMet, FoundAt, Ready, TriedWith};
+ghost use Rattle.seek.specs.Level.{Roomy, meets};
 ghost use Rattle.seek.specs.Answer.{AnsweredWith};
 
 use multisets::back;
@@ -21,93 +20,75 @@ pub struct Masks {
     pub sets: [u64; 256],
 }
 
-impl Masks {
-    // The clauses that the sum and the set meet both.
-    fn met(&self, sum: u8, set: u8) -> u64
-        requires { (length self.now.sums ≡ 256) × (length self.now.sets ≡ 256) }
-        ensures { result ≡ bit_and (get_or self.now.sums sum 0) (get_or self.now.sets set 0) }
+// A level's places, with their ends, sums and sets of roles; and the masks and the row for which they are looked
+// through.
+#[derive(Drop)]
+struct Level<'a> {
+    ends: &'a [u8],
+    sums: &'a [u8],
+    roles: &'a [u8],
+    masks: &'a Masks,
+    row: u64,
+}
+
+impl Level<'_> {
+    // Some clause of the row is met by the sum and by the set of place x, and it is reached.
+    fn met_at(&self, x: usize) -> bool
+        requires { Roomy (suc x) self.now }
+        ensures { result ≡ meets self.now x }
     {
-        self.sums[sum as usize] & self.sets[set as usize]
+        let masks = self.masks;
+        self.row & masks.sums[self.sums[x] as usize] & masks.sets[self.roles[x] as usize] != 0
+            && self.ends[x] != 255
     }
-}
 
-// Some clause of the row is met by the sum and by the set of place x, and it is reached.
-fn met_at(ends: &[u8], sums: &[u8], roles: &[u8], masks: &Masks, row: u64, x: usize) -> bool
-    requires { Tables (suc x) ends.now sums.now roles.now masks.now.sums masks.now.sets }
-    ensures { result ≡ met_at ends.now sums.now roles.now
-        (met_by row masks.now.sums masks.now.sets) x }
-{
-    row & masks.sums[sums[x] as usize] & masks.sets[roles[x] as usize] != 0 && ends[x] != 255
-}
-
-// Such a place from `from` to before `end`.
-fn meeting_in(
-    ends: &[u8],
-    sums: &[u8],
-    roles: &[u8],
-    masks: &Masks,
-    row: u64,
-    from: usize,
-    end: usize,
-) -> Option<usize>
-    requires { Tables end ends.now sums.now roles.now masks.now.sums masks.now.sets × (from ≤ end) × (end ≤ 3003) }
-    ensures { FoundAt (met_at ends.now sums.now roles.now
-        (met_by row masks.now.sums masks.now.sets)) from end result }
-{
-    (from..end).find(|x| met_at(ends, sums, roles, masks, row, *x))
-}
-
-// The clauses that the sum and the set of one of eight places from x on meet.
-fn some_met(sums: &[u8], roles: &[u8], masks: &Masks, x: usize) -> u64
-    requires { (x + 8 ≤ length sums.now) × (x + 8 ≤ length roles.now) × (x ≤ 3003)
-        × (length masks.now.sums ≡ 256) × (length masks.now.sets ≡ 256) }
-    ensures { SomeMet sums.now roles.now masks.now.sums masks.now.sets x 8 result }
-{
-    let clauses = |all: u64, (sum, set): (&u8, &u8)| all | masks.met(*sum, *set);
-    sums[x..x + 8].iter().zip(&roles[x..x + 8]).fold(0, clauses)
-}
-
-// The same for the eight places from x on, which are looked at one by one only where some clause of the row is met.
-fn meeting_in_eight(
-    ends: &[u8],
-    sums: &[u8],
-    roles: &[u8],
-    masks: &Masks,
-    row: u64,
-    x: usize,
-) -> Option<usize>
-    requires { Tables (x + 8) ends.now sums.now roles.now masks.now.sums masks.now.sets × (x + 8 ≤ 3003) }
-    ensures { FoundAt (met_at ends.now sums.now roles.now
-        (met_by row masks.now.sums masks.now.sets)) x (x + 8) result }
-{
-    if row & some_met(sums, roles, masks, x) == 0 {
-        return None;
+    // Such a place from `from` to before `end`.
+    fn meeting_in(&self, from: usize, end: usize) -> Option<usize>
+        requires { Roomy end self.now × (from ≤ end) × (end ≤ 3003) }
+        ensures { FoundAt (meets self.now) from end result }
+    {
+        (from..end).find(|x| self.met_at(*x))
     }
-    meeting_in(ends, sums, roles, masks, row, x, x + 8)
-}
 
-// The same from `from` to before `end`, eight places at a time.
-fn meeting(
-    ends: &[u8],
-    sums: &[u8],
-    roles: &[u8],
-    masks: &Masks,
-    row: u64,
-    from: usize,
-    end: usize,
-) -> Option<usize>
-    requires { Tables end ends.now sums.now roles.now masks.now.sums masks.now.sets × (from ≤ end) × (end ≤ 3003) }
-    ensures { FoundAt (met_at ends.now sums.now roles.now
-        (met_by row masks.now.sums masks.now.sets)) from end result }
-{
-    let mut x = from;
-    while x + 8 <= end {
-        if let Some(found) = meeting_in_eight(ends, sums, roles, masks, row, x) {
-            return Some(found);
+    // The clauses that the sum and the set of one of eight places from x on meet.
+    fn some_met(&self, x: usize) -> u64
+        requires { Roomy (x + 8) self.now × (x ≤ 3003) }
+        ensures { SomeMet self.now.sums.now self.now.roles.now self.now.masks.now.sums self.now.masks.now.sets x 8
+            result }
+    {
+        let masks = self.masks;
+        self.sums[x..x + 8].iter().zip(&self.roles[x..x + 8]).fold(
+            0,
+            |all, (sum, set)| all | (masks.sums[*sum as usize] & masks.sets[*set as usize]),
+        )
+    }
+
+    // The same for the eight places from x on, which are looked at one by one only where some clause of the row is met.
+    fn meeting_in_eight(&self, x: usize) -> Option<usize>
+        requires { Roomy (x + 8) self.now × (x + 8 ≤ 3003) }
+        ensures { FoundAt (meets self.now) x (x + 8) result }
+    {
+        if self.row & self.some_met(x) == 0 {
+            return None;
         }
-        x += 8;
+        self.meeting_in(x, x + 8)
     }
-    meeting_in(ends, sums, roles, masks, row, x, end)
+
+    // The same from `from` to before `end`, eight places at a time. The rest starts where the eights end, which a range
+    // by steps of eight wouldn't tell.
+    fn meeting(&self, from: usize, end: usize) -> Option<usize>
+        requires { Roomy end self.now × (from ≤ end) × (end ≤ 3003) }
+        ensures { FoundAt (meets self.now) from end result }
+    {
+        let mut x = from;
+        while x + 8 <= end {
+            if let Some(found) = self.meeting_in_eight(x) {
+                return Some(found);
+            }
+            x += 8;
+        }
+        self.meeting_in(x, end)
+    }
 }
 
 // A place of the multisets of n roles below `end` that meets the row; their sums are made, and the level if it isn't
@@ -137,15 +118,14 @@ fn try_level<const ROWS: usize, const PLACES: usize>(
     tables.reach(n);
     let first = first_in(tables.d, n);
     let last = first + start_in(n, end);
-    meeting(
-        &tables.ends,
-        &tables.sums,
-        &tables.roles,
+    let level = Level {
+        ends: &tables.ends,
+        sums: &tables.sums,
+        roles: &tables.roles,
         masks,
         row,
-        first,
-        last,
-    )
+    };
+    level.meeting(first, last)
 }
 
 // A number of entries, and their twelve bytes.
@@ -172,6 +152,7 @@ pub fn search<const ROWS: usize, const PLACES: usize>(
         × ((sets : List ℕ) → NextEnds sets tables.old.nexts →
         AnsweredWith sets w placed (by_masks rows.now masks.now.sums masks.now.sets) last result) }
 {
+    // Each level changes the tables, so these are turns of a loop and no chain.
     for n in 0..last + 1 {
         if let Some(at) = try_level(tables, masks, rows[n], end, n, w, placed) {
             let group = back::group(&tables.ends, &tables.from, n, at);

@@ -1,5 +1,6 @@
 -- `search` meets its contract: no level so far has a place that meets its row; the first that has one gives the group.
-use Rattle.std.proofs.Common.{ℕ, ◌-◌, ◌*◌, ◌<◌, ◌≤◌, Bool, List, ◌++◌, Option, Some, length, replicate, ◌≡◌, refl, ◌∙◌, arith}
+use Rattle.std.proofs.Common.{ℕ, ◌-◌, ◌*◌, ◌<◌, ◌≤◌, Bool, List, ◌++◌, Option, Some, ◌≡◌, refl, ◌∙◌}
+use Rattle.std.proofs.Common.{length, replicate, arith}
 use mathlib.Core.Logic.{⊎_elim}
 use borrow.Author.Tests.{ltb-true, ltb-false}
 use lib.Dec.{ltb}
@@ -27,8 +28,9 @@ tried_here : (condition : ℕ → ℕ → Bool) {d d₁ n : ℕ} {w nexts nexts�
 tried_here condition same_d same_nexts tried = rw (same_d, same_nexts) at tried
 
 -- the way back from the place found
-back_way : (condition : ℕ → ℕ → Bool) {d d₁ end k n at : ℕ} {w nexts nexts₁ by_sum by_set t ends from roles sums : List ℕ}
-    {placed : ℕ} → ((sets : List ℕ) → NextEnds sets nexts → TriedWith sets w placed d condition n (Some at) ends from) →
+back_way : (condition : ℕ → ℕ → Bool) {d d₁ end k n at placed : ℕ}
+    {w nexts nexts₁ by_sum by_set t ends from roles sums : List ℕ} →
+    ((sets : List ℕ) → NextEnds sets nexts → TriedWith sets w placed d condition n (Some at) ends from) →
     d₁ ≡ d → Ready d end w nexts by_sum by_set → Laid d₁ k nexts₁ t ends from roles sums → WayIn ends from n at
 back_way condition {d} tried same_d ready laid₁ =
     let laid = rw same_d at laid₁ in

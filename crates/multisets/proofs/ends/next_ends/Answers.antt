@@ -1,5 +1,5 @@
 -- The ends from a user on are made from those of the user after, role by role.
-use Rattle.std.proofs.Common.{ℕ, ◌+◌, ◌-◌, ◌*◌, ◌/◌, ◌%◌, ◌≤◌, ◌<◌, List, ◌≡◌, refl, ◌∙◌, length, get_or, arith}
+use Rattle.std.proofs.Common.{ℕ, ◌+◌, ◌-◌, ◌/◌, ◌%◌, ◌≤◌, ◌<◌, List, ◌≡◌, refl, ◌∙◌, length, get_or, arith}
 use lib.ListN.{set, length-set}
 use Rattle.multisets.specs.Ends.{NextEnd, NextEnds, NextTable}
 use Rattle.multisets.proofs.Nexts.{ends_start, ends_more, next_table}

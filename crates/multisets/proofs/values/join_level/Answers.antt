@@ -7,7 +7,8 @@ use Rattle.multisets.specs.Values.{set_at}
 use Rattle.multisets.proofs.Sets.{set_block}
 use Rattle.multisets.proofs.values.join_level.Goals as goal
 
-joined : (n r j : ℕ) → r < 8 → j < starts n (suc r) → bit_or (set_at n j) (2 ^ r) ≡ set_at (suc n) (starts (suc n) r + j)
+joined : (n r j : ℕ) → r < 8 → j < starts n (suc r) →
+    bit_or (set_at n j) (2 ^ r) ≡ set_at (suc n) (starts (suc n) r + j)
 joined n r j role some = sym (set_block n r j role some)
 
 pub next_level-requires : goal.next_level-requires

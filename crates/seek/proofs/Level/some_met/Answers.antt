@@ -1,19 +1,19 @@
 -- The clauses of the eight places are joined.
-use Rattle.std.proofs.Common.{ℕ, ◌+◌, ◌-◌, ◌≡◌, List, take, drop, sym, ap, ◌∙◌, rules, arith}
+use Rattle.std.proofs.Common.{ℕ, ◌+◌, ◌-◌, ◌≡◌, List, take, drop, rules, arith}
 use Rattle.std.proofs.lemmas.Iterator.{YieldsList-from_slice, YieldsList-from_zip}
 use Rattle.std.proofs.lemmas.Iterator.Consumers.{fold_from_yields_List}
-use Rattle.seek.specs.Search.{SomeMet}
 use Rattle.seek.proofs.Eights.{joined, some_joined}
-use Rattle.seek.proofs.some_met.Goals as goal
+use Rattle.seek.proofs.Level.some_met.Goals as goal
 
 pub returns : goal.returns
 returns c =
     let a = c.args in
-    let m = a.masks.now in
+    let l = a.self.now in
+    let m = l.masks.now in
     let p = c.requires in
     let eight : a.x + 8 - a.x ≡ 8 = omega arith in
-    let xs : List ℕ = take (a.x + 8 - a.x) (drop a.x a.sums.now) in
-    let ys : List ℕ = take (a.x + 8 - a.x) (drop a.x a.roles.now) in
+    let xs : List ℕ = take (a.x + 8 - a.x) (drop a.x l.sums.now) in
+    let ys : List ℕ = take (a.x + 8 - a.x) (drop a.x l.roles.now) in
     let is = fold_from_yields_List _ (joined m.sums m.sets) 0 c.fold.result c.fold.ensures.ran
     (YieldsList-from_zip (YieldsList-from_slice xs cc) (YieldsList-from_slice ys cc)) (λ s p t q k. search rules) in
-    rw (is, eight) (some_joined m.sums m.sets a.sums.now a.roles.now a.x 8 p.0 p.1)
+    rw (is, eight) (some_joined m.sums m.sets l.sums.now l.roles.now a.x 8 p.0.sums_room p.0.roles_room)

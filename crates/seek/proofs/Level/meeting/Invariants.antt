@@ -1,13 +1,13 @@
 -- `meeting` meets its contract: no place so far meets the row, eight at a time and then the rest.
 use Rattle.std.proofs.Common.{ℕ, ◌-◌, ◌<◌, ◌≤◌, ◌≡◌, false}
-use Rattle.seek.specs.Search.{met_by, met_at}
-use Rattle.seek.proofs.meeting.Given as goal
+use Rattle.seek.specs.Level.{meets}
+use Rattle.seek.proofs.Level.meeting.Given as goal
 
 abbrev pub invariant-loop-x : goal.invariant-loop-x
 invariant-loop-x l = record {
   low : l.from ≤ l.x;
   within : l.x ≤ l.end;
-  none : (y : ℕ) → l.from ≤ y → y < l.x → met_at l.ends l.sums l.roles (met_by l.row l.masks.sums l.masks.sets) y ≡ false;
+  none : (y : ℕ) → l.from ≤ y → y < l.x → meets l.self y ≡ false;
 }
 
 abbrev pub decreases-loop-x : goal.decreases-loop-x
