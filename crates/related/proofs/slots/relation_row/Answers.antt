@@ -1,4 +1,4 @@
--- `relation_row` meets its contract: it gathers the slots from s on to which s is related, and none where s isn't named.
+-- `relation_row` meets its contract: it gathers the slots from s on to which s is related; none where s isn't named.
 use Rattle.std.proofs.Common.{◌&&◌, rules, tests, arith, ◌∙◌}
 use mathlib.Core.Bool.{and-false}
 use borrow.Author.Tests.{lt-ltb}
