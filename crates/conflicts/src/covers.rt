@@ -6,7 +6,7 @@ ghost use Rattle.weights.specs.Setting.{Juniors};
 ghost use Rattle.conflicts.specs.Conflicts.{covers, excludes};
 ghost use Rattle.conflicts.specs.Rows.{Covers, Excluded};
 
-use std::array;
+use crate::filling;
 use weights::sets;
 
 // The set of the roles that have j among their juniors.
@@ -39,8 +39,9 @@ pub fn cover_sets(h: &[u8], a: &[u8]) -> [u8; 64]
     ensures { Covers h.now a.now result }
 {
     let juniors = weights::seniority::juniors(h);
-    let count = a.len() / 8;
-    array::from_fn(|i| if i < count { cover(a, i, &juniors) } else { 0 })
+    let mut sets = [0; 64];
+    filling::fill(&mut sets, a.len() / 8, |i| cover(a, i, &juniors));
+    sets
 }
 
 // Adds q to the set of p.

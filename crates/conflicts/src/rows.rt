@@ -7,10 +7,9 @@ ghost use Rattle.conflicts.specs.Conflicts.{disagree, holds_both};
 ghost use Rattle.conflicts.specs.Kinds.{kind_number};
 ghost use Rattle.conflicts.specs.Rows.{related_by, contradict_by, overlap_by, Contradictions, Overlaps, Holders};
 
-use crate::covers;
+use crate::{covers, filling};
 use reader::{Table, codes, trailer};
 use related::slots;
-use std::array;
 use weights::sets;
 
 // The kinds of conflict, by the number that stands first in a record.
@@ -54,20 +53,6 @@ fn row<F: Fn(usize) -> bool>(from: usize, end: usize, test: F) -> u64
             { test(*j) },
         )
         .fold(0, |row, j| row | sets::wide_bit(j))
-}
-
-// A row for each number before `end`.
-fn rows<F: Fn(usize) -> u64>(end: usize, row: F) -> [u64; 64]
-    requires few { end ≤ 64 }
-    requires callable { (i : ℕ) → i < end → F.pre row i }
-    ensures { (i : ℕ) → i < end → F.post row i (get_or result i 0) }
-{
-    array::from_fn(
-        |i|
-            requires { i < end → F.pre row i }
-            ensures { i < end → F.post row i result }
-        { if i < end { row(i) } else { 0 } },
-    )
 }
 
 // Policies i and j have equal role and permission, and different weight or type.
@@ -149,11 +134,13 @@ pub fn contradictions(base: &[u8]) -> Conflicts
     let names = slots::names(a);
     let related = slots::relations(trailer::part(base, Table::Contexts), names);
     let firsts = a.len() / 8;
-    Conflicts {
+    let mut found = Conflicts {
         kind: Kind::Contradiction,
         firsts,
-        rows: rows(firsts, |i| contradict_row(&related, a, i)),
-    }
+        rows: [0; 64],
+    };
+    filling::fill(&mut found.rows, firsts, |i| contradict_row(&related, a, i));
+    found
 }
 
 // Inner: the conflicts of kind 2 of an accepted base, a row for each policy.
@@ -167,11 +154,17 @@ pub fn overlaps(base: &[u8]) -> Conflicts
     let covered = covers::cover_sets(trailer::part(base, Table::Hierarchy), a);
     let apart = covers::excluded_sets(trailer::part(base, Table::Exclusions));
     let firsts = a.len() / 8;
-    Conflicts {
+    let mut found = Conflicts {
         kind: Kind::Overlap,
         firsts,
-        rows: rows(firsts, |i| overlap_row(&apart, &covered, a, i)),
-    }
+        rows: [0; 64],
+    };
+    filling::fill(
+        &mut found.rows,
+        firsts,
+        |i| overlap_row(&apart, &covered, a, i),
+    );
+    found
 }
 
 // Inner: the conflicts of kind 3 of an accepted base, a row for each user.
@@ -185,9 +178,11 @@ pub fn holders(base: &[u8]) -> Conflicts
     let x = trailer::part(base, Table::Exclusions);
     let roles = trailer::role_count(base);
     let firsts = users.len() / 4;
-    Conflicts {
+    let mut found = Conflicts {
         kind: Kind::Holder,
         firsts,
-        rows: rows(firsts, |u| holds_row(users, roles, x, u)),
-    }
+        rows: [0; 64],
+    };
+    filling::fill(&mut found.rows, firsts, |u| holds_row(users, roles, x, u));
+    found
 }

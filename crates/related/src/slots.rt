@@ -45,9 +45,13 @@ fn relation_row(c: &Clauses, names: u32, s: u8) -> u32
     requires { s < 17 }
     ensures { (t : ℕ) → t < 17 → in_set result t ≡ related_slots c.now.table.now names s t }
 {
-    (0..17u8)
-        .filter(|t| slots_related(c, names, s, *t))
-        .fold(0, |row, t| row | weights::sets::bit(t))
+    if weights::sets::in_set(names, s) {
+        (s..17)
+            .filter(|t| slots_related(c, names, s, *t))
+            .fold(0, |row, t| row | weights::sets::bit(t))
+    } else {
+        0
+    }
 }
 
 // Inner: the related slots, a row a slot.

@@ -1,5 +1,6 @@
 -- `contradictions` meets its contract: the rows by the related slots are those of the rules.
 use Rattle.std.proofs.Common.{ℕ, ◌≡◌, ◌/◌, false, List, length, rules}
+use lib.Dec.{lit<}
 use Rattle.folds.specs.Sets.{in_set}
 use Rattle.reader.specs.Tables.{contexts, policies, table_of}
 use Rattle.reader.specs.Rules.{policies_bad, refusal_of}
@@ -33,20 +34,16 @@ pub relations-related-requires : goal.relations-related-requires
 relations-related-requires c =
     rw c.part.ensures ((accepted _ c.requires).contexts, whole_contexts _ c.requires)
 
-pub rows-requires-clause-few : goal.rows-requires-clause-few
-rows-requires-clause-few c = few_policies _ c.requires c.part-a.ensures
-
-pub rows-requires-clause-callable : goal.rows-requires-clause-callable
-rows-requires-clause-callable c =
-    λ i l.
+pub fill-requires : goal.fill-requires
+fill-requires c =
     let few = few_policies _ c.requires c.part-a.ensures in
     let fine : policies_bad 8 256 c.part-a.result.now ≡ false = rw c.part-a.ensures (policies_fine _ c.requires) in
-    search rules
+    (lit< tt, (few, λ i l. search rules))
 
-pub invariant_of-result : goal.invariant_of-result
-invariant_of-result c = record { few = few_policies _ c.requires c.part-a.ensures }
+pub invariant_of-found : goal.invariant_of-found
+invariant_of-found c = record { few = few_policies _ c.requires c.part-a.ensures }
 
 pub returns-clause-rows : goal.returns-clause-rows
 returns-clause-rows c =
     found _ c.requires c.part-a.ensures c.part.ensures c.relations-related.ensures c.names-names.ensures
-    (record { row = λ i j l. let row = c.rows.ensures i l in search rules })
+    (record { row = λ i j l. let row = c.fill.ensures i 0 l in search rules })

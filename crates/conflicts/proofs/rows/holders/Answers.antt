@@ -1,5 +1,6 @@
 -- `holders` meets its contract: each user has its row.
 use Rattle.std.proofs.Common.{ℕ, ◌≡◌, ◌≤◌, ◌/◌, List, length, rules}
+use lib.Dec.{lit<}
 use Rattle.reader.specs.Tables.{users, exclusions, role_count, table_of}
 use Rattle.reader.proofs.Accepted.{accepted_frame}
 use Rattle.reader.proofs.Frame.{framed, roles_range}
@@ -23,21 +24,18 @@ part-x-requires c = accepted_frame _ c.requires
 pub role_count-roles-requires : goal.role_count-roles-requires
 role_count-roles-requires c = (framed _ (accepted_frame _ c.requires)).long
 
-pub rows-requires-clause-few : goal.rows-requires-clause-few
-rows-requires-clause-few c = few_users _ c.requires c.part-users.ensures
-
-pub rows-requires-clause-callable : goal.rows-requires-clause-callable
-rows-requires-clause-callable c =
-    λ u l.
+pub fill-requires : goal.fill-requires
+fill-requires c =
+    let few = few_users _ c.requires c.part-users.ensures in
     let roles : c.role_count-roles.result ≤ 8 =
     rw c.role_count-roles.ensures (roles_range _ (accepted_frame _ c.requires)).1 in
-    let few = few_exclusions _ c.requires c.part-x.ensures in
-    search rules
+    let exclusions_few = few_exclusions _ c.requires c.part-x.ensures in
+    (lit< tt, (few, λ u l. search rules))
 
-pub invariant_of-result : goal.invariant_of-result
-invariant_of-result c = record { few = few_users _ c.requires c.part-users.ensures }
+pub invariant_of-found : goal.invariant_of-found
+invariant_of-found c = record { few = few_users _ c.requires c.part-users.ensures }
 
 pub returns-clause-rows : goal.returns-clause-rows
 returns-clause-rows c =
     found _ c.part-users.ensures c.part-x.ensures c.role_count-roles.ensures
-    (record { row = λ u e l. let row = c.rows.ensures u l in search rules })
+    (record { row = λ u e l. let row = c.fill.ensures u 0 l in search rules })

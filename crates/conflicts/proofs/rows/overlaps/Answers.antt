@@ -1,5 +1,6 @@
 -- `overlaps` meets its contract: the rows by the sets worked out are those of the rules.
 use Rattle.std.proofs.Common.{ℕ, ◌≡◌, ◌/◌, false, List, length, rules}
+use lib.Dec.{lit<}
 use Rattle.reader.specs.Tables.{hierarchy, policies, exclusions, table_of}
 use Rattle.reader.specs.Rules.{policies_bad, refusal_of}
 use Rattle.reader.proofs.Accepted.{accepted, accepted_frame}
@@ -42,20 +43,16 @@ excluded_sets-apart-requires c =
     let roles = (roles_range _ f.frame).1 in
     rw c.part-2.ensures (exclusions_wider _ _ 8 16 _ roles (permissions_le _ f.frame) f.exclusions)
 
-pub rows-requires-clause-few : goal.rows-requires-clause-few
-rows-requires-clause-few c = few_policies _ c.requires c.part-a.ensures
-
-pub rows-requires-clause-callable : goal.rows-requires-clause-callable
-rows-requires-clause-callable c =
-    λ i l.
+pub fill-requires : goal.fill-requires
+fill-requires c =
     let few = few_policies _ c.requires c.part-a.ensures in
     let fine : policies_bad 8 16 c.part-a.result.now ≡ false = rw c.part-a.ensures (policies_small _ c.requires) in
-    search rules
+    (lit< tt, (few, λ i l. search rules))
 
-pub invariant_of-result : goal.invariant_of-result
-invariant_of-result c = record { few = few_policies _ c.requires c.part-a.ensures }
+pub invariant_of-found : goal.invariant_of-found
+invariant_of-found c = record { few = few_policies _ c.requires c.part-a.ensures }
 
 pub returns-clause-rows : goal.returns-clause-rows
 returns-clause-rows c =
     found _ c.requires c.part-a.ensures c.part.ensures c.part-2.ensures c.cover_sets-covered.ensures
-    c.excluded_sets-apart.ensures (record { row = λ i j l. let row = c.rows.ensures i l in search rules })
+    c.excluded_sets-apart.ensures (record { row = λ i j l. let row = c.fill.ensures i 0 l in search rules })
