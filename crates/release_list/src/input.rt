@@ -10,6 +10,7 @@ pub fn read_full<R: Read>(reader: &mut R, buf: &mut [u8]) -> io::Result<usize>
     ensures { IfOk result (λ n. IsPrefixLen n buf.new) }
 {
     let mut done = 0;
+    // a loop: no call of std reads as far as the input goes into a buffer that is lent
     while done < buf.len() {
         let n = reader.read(&mut buf[done..])?;
         if n == 0 {

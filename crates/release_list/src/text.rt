@@ -1,6 +1,6 @@
 // The text of a report, written behind what stands on a page. By hand and not by `write!`: what a Display promises of
 // its text is of a call that succeeds, and nothing promises that one does; here each text has room, and none fails.
-ghost use Rattle.std.specs.Prelude.{◌+◌, ◌≤◌, ◌++◌, length};
+ghost use Rattle.std.specs.Prelude.{◌++◌};
 ghost use Rattle.release_list.specs.Text.{decimal, count_text, entry_text, line_text};
 ghost use Rattle.release_list.specs.Writing.{HasRoom, Put, standing_text, Rising, Parts, lines_text};
 
@@ -84,6 +84,7 @@ impl Page<'_> {
         requires { Parts parts.now n × HasRoom self.old (lines_text parts.now n) }
         ensures { Put (lines_text parts.now n) self.old self.new }
     {
+        // by number, for the line begins with it
         for p in 0..n {
             let part = &parts[13 * usize::from(p)..];
             let k = part[0];

@@ -121,4 +121,5 @@ module _ (stays : ℕ → ℕ → Bool) (held : List ℕ) (p : ℕ) where
   all_stayed {rest = rest} yet l =
       let none : entry_count rest ≡ 0 = omega arith in
       let nothing : staying stays rest ≡ [] = rw none refl in
-      yet.are ∙ ap (holding p) (sym (append-nil yet.done) ∙ ap (λ (m : List ℕ). yet.done ++ m) (sym nothing) ∙ yet.whole)
+      yet.are
+      ∙ ap (holding p) (sym (append-nil yet.done) ∙ ap (λ (m : List ℕ). yet.done ++ m) (sym nothing) ∙ yet.whole)

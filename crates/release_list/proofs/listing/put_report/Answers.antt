@@ -35,12 +35,14 @@ overflow_cast-count c =
 pub put_count-requires : goal.put_count-requires
 put_count-requires c =
     let ready = report_ready _ _ _ _ _ refl c.in-Ok.ensures.promise refl (omega arith) in
-    let w = lines_written c.args.base.now c.report.new.out c.permission_count.ensures c.requires.0 c.put_lines.ensures.written in
+    let lines = c.put_lines.ensures.written in
+    let w = lines_written c.args.base.now c.report.new.out c.permission_count.ensures c.requires.0 lines in
     omega (arith, w.place, ready.lines, ready.last, c.requires.1, same_size w)
 
 pub returns-in-Ok-clause-text : goal.returns-in-Ok-clause-text
 returns-in-Ok-clause-text c =
-    let w = lines_written c.args.base.now c.report.new.out c.permission_count.ensures c.requires.0 c.put_lines.ensures.written in
+    let lines = c.put_lines.ensures.written in
+    let w = lines_written c.args.base.now c.report.new.out c.permission_count.ensures c.requires.0 lines in
     done_listed _ _ _ _ _ refl c.in-Ok.ensures.promise refl c.requires.1 w c.put_count.ensures.written
 
 pub put_count-requires-in-Err : goal.put_count-requires-in-Err
