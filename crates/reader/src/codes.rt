@@ -48,7 +48,8 @@ fn try_codes(x: u32, roles: u8) -> Tried
 {
     let mut rest = x;
     let mut tried: u8 = 0;
-    for (r, code) in CODES.iter().enumerate() {
+    // By role, which indexes the table of codes.
+    for r in 0..8usize {
         if rest == 1 {
             return Tried { ok: true, tried };
         }
@@ -56,7 +57,7 @@ fn try_codes(x: u32, roles: u8) -> Tried
             return Tried { ok: false, tried };
         }
         tried += 1;
-        if rest % *code == 0 {
+        if code_divides(r, rest) {
             rest = quotient(r, rest);
         }
     }

@@ -5,19 +5,14 @@ ghost use Rattle.weights.specs.Operators.{meets, RangeOf};
 
 use reader::bytes;
 
-// Inner: x stands to the value v as the operator says. An operator is a byte of the base, any of 256: an enum would put
-// the seven arms of a conversion in front of these.
-#[tactic(auto, using(folds::proofs::Sets::contains_and), unfolding(crate::specs::Operators::meets))]
+// Inner: x stands to the value v as the operator says. Document 01 asks for the operator's number, with ranges.
 pub fn is_met(operator: u8, x: u32, v: u32) -> bool
     ensures { result ≡ meets operator x v }
 {
     match operator {
-        0 => v < x,
-        1 => x < v,
-        2 => v <= x,
-        3 => x <= v,
-        4 => x == v,
-        5 => x != v,
+        0..=1 => if operator == 0 { v < x } else { x < v },
+        2..=3 => if operator == 2 { v <= x } else { x <= v },
+        4..=5 => if operator == 4 { x == v } else { x != v },
         6 => x & v == v,
         _ => false,
     }

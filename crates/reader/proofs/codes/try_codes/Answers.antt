@@ -12,7 +12,7 @@ use Rattle.reader.proofs.Parameter.{rest_of, rest_none, rest_taken, rest_left, r
 use Rattle.reader.proofs.Trying.{wider, tried_refused, tried_least}
 use Rattle.reader.proofs.codes.try_codes.Invariants.{Turn}
 use Rattle.reader.proofs.codes.try_codes.Goals as goal
-use Rattle.reader.proofs.codes.try_codes.Goals.{then-rest-code-eq0, else-rest-code-eq0}
+use Rattle.reader.proofs.codes.try_codes.Goals.{then-code_divides, else-code_divides}
 
 first : (x roles : ℕ) → Turn x roles x 0 0
 first x roles = record { counted = refl; upto = sym (rest_none x); yet = none_at_first }
@@ -86,11 +86,10 @@ loop-r-preserved c =
     let l = c.loop-r in
     let low : l.r < c.args.roles = omega arith in
     let left = c.if-rest-eq1.false in
-    elim c.if-rest-code-eq0.branch [
-      | then-rest-code-eq0 w ↦ divided few l.invariant low left
-          (eq-eqb _ _ w.if-rest-code-eq0.true) (w.rest-is ∙ w.quotient-rest.ensures)
-      | else-rest-code-eq0 w ↦ kept few l.invariant low left
-          (ne_eqb _ _ w.if-rest-code-eq0.false) w.rest-is
+    elim c.if-code_divides.branch [
+      | then-code_divides w ↦ divided few l.invariant low left
+          (sym w.if-code_divides.ensures) (w.rest-is ∙ w.quotient-rest.ensures)
+      | else-code_divides w ↦ kept few l.invariant low left (sym w.if-code_divides.ensures) w.rest-is
     ]
 
 pub returns : goal.returns
