@@ -22,6 +22,7 @@ pub fn next_ends(sets: [u8; 24], users: usize) -> [u8; 200]
     ensures { NextEnds sets result × NextTable result }
 {
     let mut ends = [255u8; 200];
+    // Each end may be the one eight places on, which is written before it.
     for at in (0..8 * users).rev() {
         ends[at] = end_from(sets, ends[at + 8], at / 8, (at % 8) as u8);
     }

@@ -29,6 +29,7 @@ fn next_level<F: Fn(u8, usize) -> u8>(d: usize, end: usize, n: usize, t: &mut [u
 {
     let before = first_in(d, n);
     let here = first_in(d, n + 1);
+    // Each block is written into the table that the blocks read.
     for r in 0..end {
         let to = here + start_in(n + 1, r);
         let largest = |value: u8| -> u8

@@ -24,6 +24,7 @@ impl Chosen {
             AreWeights rules b at permission result }
     {
         let mut w = inherited::own_weights(&self.own, permission);
+        // Each junior adds to the weights of its seniors.
         for j in 0..8u8 {
             inherited::hand_on(
                 &mut w,

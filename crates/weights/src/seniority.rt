@@ -38,6 +38,7 @@ pub fn juniors(h: &[u8]) -> [u8; 8]
     ensures { Juniors h.now result }
 {
     let mut known = [0u8; 8];
+    // A role's juniors come from those of the roles with higher numbers.
     for s in (0..8usize).rev() {
         known[s] = juniors_of(h, s as u8, known);
     }
