@@ -4,6 +4,9 @@ ghost use Rattle.reader.specs.Tables.{clauses, record_count};
 ghost use Rattle.reader.specs.Fields.{clause_length};
 ghost use Rattle.decision.specs.Conditions.{role_num, attribute, condition_holds, clause_holds, permission_holds};
 
+use reader::clauses::GroupCondition;
+use reader::conditions::{self, Condition};
+
 // Inner: role_num, the number of different roles in the set.
 pub fn role_num(set: u8) -> u32
     ensures { result ≡ role_num set }
@@ -37,15 +40,16 @@ fn condition_holds(k: &[u8], i: usize, j: usize, attributes: Attributes) -> bool
     requires { (16 * i + 16 ≤ length k.now) × (j < 4) }
     ensures { result ≡ condition_holds k.now attributes.entries attributes.sum attributes.roles i j }
 {
-    let at = 16 * i + 3 * j;
-    weights::operators::is_met(k[at + 3], attributes.attribute(k[at + 2]), k[at + 4] as u32)
+    let condition = GroupCondition::read(k, i, j);
+    let x = attributes.attribute(condition.attribute);
+    weights::operators::is_met(condition.operator, x, u32::from(condition.value))
 }
 
 fn clause_holds(k: &[u8], i: usize, attributes: Attributes) -> bool
     requires { (16 * i + 16 ≤ length k.now) × (clause_length k.now i ≤ 4) }
     ensures { result ≡ clause_holds k.now attributes.entries attributes.sum attributes.roles i }
 {
-    (0..k[16 * i + 1] as usize).all(|j| condition_holds(k, i, j, attributes))
+    (0..conditions::count(k, i)).all(|j| condition_holds(k, i, j, attributes))
 }
 
 // Inner: the permission's condition, by a table K whose clauses have at most 4 conditions.

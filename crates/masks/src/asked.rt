@@ -25,6 +25,7 @@ impl Asked {
             × (length sums.old ≤ 256) }
         ensures { StruckAll (length sums.old) (met_at k.now i j) others self.old sums.old self.new sums.new }
     {
+        // Read byte by byte: of a `GroupCondition` each of the four ways would state the same three equations again.
         let at = 16 * i + 3 * j;
         let operator = k[at + 3];
         let value = k[at + 4];

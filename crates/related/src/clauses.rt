@@ -6,7 +6,9 @@ ghost use Rattle.reader.specs.Rules.{contexts_bad};
 ghost use Rattle.related.specs.Related.{clause_of, fits_at, fits, both_fit, value_fits, some_value_fits};
 ghost use Rattle.related.specs.Related.{meetable, compatible, joins, related};
 
-use reader::{RANGES, bytes};
+use reader::RANGES;
+use reader::conditions::{self, Condition};
+use reader::contexts::ContextCondition;
 
 // A table C that passed the check.
 #[derive(Clone, Copy)]
@@ -33,7 +35,7 @@ impl Clauses<'_> {
         ensures { (result ≡ context_length self.now.table.now i) × (result ≤ 3) }
     {
         if i < self.table.len() / 16 {
-            self.table[16 * i + 1] as usize
+            conditions::count(self.table, i)
         } else {
             0
         }
@@ -44,13 +46,9 @@ impl Clauses<'_> {
         requires { (16 * i + 16 ≤ length self.now.table.now) × (k < 3) }
         ensures { result ≡ fits_at self.now.table.now i p v k }
     {
-        let at = 16 * i + 4 * k;
-        self.table[at + 2] != p
-            || weights::operators::is_met(
-                self.table[at + 3],
-                v,
-                bytes::get16(self.table, at + 4) as u32,
-            )
+        let condition = ContextCondition::read(self.table, i, k);
+        condition.parameter != p
+            || weights::operators::is_met(condition.operator, v, u32::from(condition.value))
     }
 
     // Value v of parameter p meets the conditions of clause i on that parameter.
@@ -72,9 +70,9 @@ impl Clauses<'_> {
         requires { (p < 3) × (16 * s + 16 ≤ length self.now.table.now) × (k < 3) }
         ensures { result ≡ value_fits self.now.table.now s i j p k }
     {
-        let at = 16 * s + 4 * k;
-        let value = bytes::get16(self.table, at + 4) as u32;
-        self.table[at + 2] == p
+        let condition = ContextCondition::read(self.table, s, k);
+        let value = u32::from(condition.value);
+        condition.parameter == p
             && (self.both_fit(i, j, p, value) || self.both_fit(i, j, p, value + 1))
     }
 

@@ -6,7 +6,8 @@ ghost use Rattle.weights.specs.Contexts.{out_of_range, value_of, context_conditi
 ghost use Rattle.weights.specs.Setting.{Holding};
 
 use crate::{Context, operators, sets};
-use reader::bytes;
+use reader::conditions::{self, Condition};
+use reader::contexts::ContextCondition;
 
 // Inner: refusal 11.
 #[tactic(auto, unfolding(crate::specs::Contexts::out_of_range))]
@@ -32,16 +33,16 @@ fn condition_holds(c: &[u8], i: usize, j: usize, at: Context) -> bool
     requires { (16 * i + 16 ≤ length c.now) × (j < 3) }
     ensures { result ≡ context_condition_holds at c.now i j }
 {
-    let place = 16 * i + 4 * j;
-    let x = value_of(at, c[place + 2]);
-    operators::is_met(c[place + 3], x, bytes::get16(c, place + 4) as u32)
+    let condition = ContextCondition::read(c, i, j);
+    let x = value_of(at, condition.parameter);
+    operators::is_met(condition.operator, x, u32::from(condition.value))
 }
 
 fn clause_holds(c: &[u8], i: usize, at: Context) -> bool
     requires { (16 * i + 16 ≤ length c.now) × (context_length c.now i ≤ 3) }
     ensures { result ≡ context_clause_holds at c.now i }
 {
-    (0..c[16 * i + 1] as usize).all(|j| condition_holds(c, i, j, at))
+    (0..conditions::count(c, i)).all(|j| condition_holds(c, i, j, at))
 }
 
 // Inner: the set of the context numbers that hold, by a table C that passed the check.
