@@ -148,7 +148,7 @@ pub extern "C" fn release_sheet_sign(base: &[u8], user: u32, role: u32, sheet: &
             *sheet = signed.into();
             0
         }
-        Err(refusal) => u32::from(refusal.number()),
+        Err(unsigned) => u32::from(unsigned.number()),
     }
 }
 
@@ -165,7 +165,7 @@ pub extern "C" fn release_sheet_withdraw(user: u32, sheet: &mut [u8; 14]) -> u32
             *sheet = left.into();
             0
         }
-        Err(refusal) => u32::from(refusal.number()),
+        Err(absent) => u32::from(absent.number()),
     }
 }
 

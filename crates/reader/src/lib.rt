@@ -55,6 +55,8 @@ pub fn table(base: &[u8], t: usize) -> &[u8]
 }
 
 // Entry point: the base check, refusals 1 to 9.
+// That a base passed is said by clauses and not by a type: tried, a struct of the lent bytes has each clause say
+// `base.entry.bytes.now`.
 pub fn check(base: &[u8]) -> Result<(), Refusal>
     ensures { number_of result ≡ refusal_of base.now }
 {

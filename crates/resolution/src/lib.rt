@@ -11,9 +11,9 @@ use reader::{Refusal, bytes};
 // What goes first of two policies: the later issue day, the larger rank number or the smaller weight.
 #[derive(Clone, Copy)]
 enum Rule {
-    LaterDay = 0,
-    LargerRank = 1,
-    SmallerWeight = 2,
+    LaterDay,
+    LargerRank,
+    SmallerWeight,
 }
 
 impl TryFrom<u8> for Rule {

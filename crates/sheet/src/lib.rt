@@ -52,8 +52,8 @@ pub fn open(base: &[u8], permission: u32) -> Result<Sheet, Unopened>
     Ok(Sheet::unsigned(permission as u8))
 }
 
-// Entry point: the sheet with the entry behind those that it holds; of refusals 1 to 9, 13 to 15 and 20, the sheet as
-// it was.
+// Entry point: the sheet with the entry behind those that it holds; refusals 1 to 9, 13 to 15 and 20. A refused caller
+// has the sheet as it was.
 pub fn sign(base: &[u8], s: Sheet, user: u32, role: u32) -> Result<Sheet, Refusal>
     ensures { outcome_of s result ≡ signed base.now s user role }
 {
@@ -63,7 +63,7 @@ pub fn sign(base: &[u8], s: Sheet, user: u32, role: u32) -> Result<Sheet, Refusa
     Ok(sheet)
 }
 
-// Entry point: the sheet without the user's entries; of refusal 23, the sheet as it was.
+// Entry point: the sheet without the user's entries; refusal 23, whose caller has the sheet as it was.
 pub fn withdraw(sheet: Sheet, user: u32) -> Result<Sheet, Refusal>
     ensures { outcome_of sheet result ≡ withdrawn sheet user }
 {

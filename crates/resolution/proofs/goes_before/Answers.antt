@@ -60,8 +60,8 @@ loop-byte-preserved c =
           again c.loop-byte.invariant c.loop-byte-test.true (rw w.in-Ok.ensures at w.if-puts_before.ensures)
           (rw w.in-Ok.ensures at w.if-puts_before-2.ensures)
       | in_default w ↦
-          again c.loop-byte.invariant c.loop-byte-test.true (no_rule _ _ _ _ w.in_default.ensures)
-          (no_rule _ _ _ _ w.in_default.ensures)
+          again c.loop-byte.invariant c.loop-byte-test.true (no_rule _ _ _ _ w.in_default.ensures.1)
+          (no_rule _ _ _ _ w.in_default.ensures.1)
     ]
 
 pub returns : goal.returns
