@@ -1,4 +1,5 @@
 // The conflicts of each kind as rows of bits, a row for each first.
+// That a base is accepted stands in clauses: `reader::check` says why.
 ghost use Rattle.std.specs.Prelude.{◌≡◌, false, ◌&&◌, ◌⊎◌, ℕ, Bool, ◌+◌, ◌*◌, ◌/◌, ◌≤◌, ◌<◌, length, get_or, ltb};
 ghost use Rattle.folds.specs.Sets.{in_set};
 ghost use Rattle.reader.specs.Rules.{policies_bad, refusal_of};

@@ -15,7 +15,8 @@ fn row_count(row: u64) -> u32
     row.count_ones()
 }
 
-// Writes the records of one row from place at on, the lowest bit first; the place behind them.
+// Writes the records of one row from place at on, the lowest bit first; the place behind them. The kind is the byte that
+// is written.
 fn write_row(out: &mut [u8], at: usize, kind: u8, first: u8, row: u64) -> usize
     requires { at + length (row_records kind first row) ≤ length out.old }
     ensures { (result ≡ at + length (row_records kind first row))
@@ -51,7 +52,7 @@ impl Conflicts {
     {
         let kind = self.kind.number();
         let mut next = at;
-        // A row's number is written too, and each row behind those before it: no chain is plainer.
+        // By number, as the definition counts the rows: the number is written too.
         for i in 0..self.firsts {
             next = write_row(out, next, kind, i as u8, self.rows[i]);
         }

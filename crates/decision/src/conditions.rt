@@ -23,6 +23,7 @@ pub struct Attributes {
 }
 
 impl Attributes {
+    // By the attribute's byte, any of 256: an enum would put four arms in front of these.
     fn attribute(self, a: u8) -> u32
         ensures { result ≡ attribute self.entries self.sum self.roles a }
     {

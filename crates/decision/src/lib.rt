@@ -1,5 +1,6 @@
 // The decision: whether a group is granted a permission, by the first refusal of 1 to 17, and of 22 where a list is
 // lent, that applies.
+// That a base is accepted stands in clauses: `reader::check` says why.
 #![tactic(auto)]
 
 ghost use Rattle.std.specs.Prelude.{◌≡◌, ◌<◌};

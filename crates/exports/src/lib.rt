@@ -12,6 +12,7 @@ ghost use Rattle.exports.specs.Packed.{packed, unpacked};
 ghost use Rattle.decision.specs.Decision.{decision_of, decision_lent};
 ghost use Rattle.sheet.specs.Sheets.{opened, signed, withdrawn, asked};
 ghost use Rattle.sheet.specs.Form.{bytes_of, sheet_of};
+ghost use Rattle.sheet.specs.Outcomes.{outcome_of};
 ghost use Rattle.shift.specs.Shift.{bound_answer};
 
 use reader::{Answer, Refusal, Refused};
@@ -143,13 +144,8 @@ pub extern "C" fn release_sheet_sign(base: &[u8], user: u32, role: u32, sheet: &
         (sheet.new ≡ bytes_of (signed base.now (sheet_of sheet.old) user role).sheet) }
     ensures kept { (result ≡ 0 → ⊥) → sheet.new ≡ sheet.old }
 {
-    match sheet::sign(base, Sheet::from(&*sheet), user, role) {
-        Ok(signed) => {
-            *sheet = signed.into();
-            0
-        }
-        Err(unsigned) => u32::from(unsigned.number()),
-    }
+    let given = sheet::sign(base, Sheet::from(&*sheet), user, role);
+    put(given, sheet)
 }
 
 // Withdrawing a user from a sheet: 0, and the sheet with the other entries alone, every byte behind them 0, or 23 where
@@ -160,13 +156,8 @@ pub extern "C" fn release_sheet_withdraw(user: u32, sheet: &mut [u8; 14]) -> u32
         (sheet.new ≡ bytes_of (withdrawn (sheet_of sheet.old) user).sheet) }
     ensures kept { (result ≡ 0 → ⊥) → sheet.new ≡ sheet.old }
 {
-    match sheet::withdraw(Sheet::from(&*sheet), user) {
-        Ok(left) => {
-            *sheet = left.into();
-            0
-        }
-        Err(absent) => u32::from(absent.number()),
-    }
+    let given = sheet::withdraw(Sheet::from(&*sheet), user);
+    put(given, sheet)
 }
 
 // Asking a sheet: the decision for its permission and the entries that it holds.
@@ -201,6 +192,21 @@ pub extern "C" fn release_parameter(parameter: u32, roles: u32) -> u64
     ensures { result ≡ packed (parameter_answer roles parameter) }
 {
     pack(reader::codes::check_parameter(parameter, roles))
+}
+
+// Writes the sheet that a call gives: 0. Of a refusal its number, and no byte changed.
+fn put(given: Result<Sheet, Refusal>, sheet: &mut [u8; 14]) -> u32
+    ensures outcome { (result ≡ (outcome_of (sheet_of sheet.old) given).refusal) ×
+        (sheet.new ≡ bytes_of (outcome_of (sheet_of sheet.old) given).sheet) }
+    ensures kept { (result ≡ 0 → ⊥) → sheet.new ≡ sheet.old }
+{
+    match given {
+        Ok(signed) => {
+            *sheet = signed.into();
+            0
+        }
+        Err(unsigned) => u32::from(unsigned.number()),
+    }
 }
 
 // 0, or the number of the refusal.

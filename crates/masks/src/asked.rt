@@ -29,6 +29,7 @@ impl Asked {
         let at = 16 * i + 3 * j;
         let operator = k[at + 3];
         let value = k[at + 4];
+        // by the attribute's byte, of which the check has made sure
         match k[at + 2] {
             0 => strike_unmet(&mut self.entries, operator, value, others),
             1 => strike_unmet(sums, operator, value, others),

@@ -67,6 +67,7 @@ impl<const ROWS: usize, const PLACES: usize> LevelTables<ROWS, PLACES> {
         ensures { (n ≤ self.new.known) × (self.new.d ≡ self.old.d)
             × (self.new.nexts ≡ self.old.nexts) × (self.new.sums ≡ self.old.sums) }
     {
+        // Each level changes the tables.
         for _ in self.known..n {
             self.extend();
         }

@@ -37,6 +37,7 @@ impl Condition for GroupCondition {
         }
     }
 
+    // The attribute is a byte of the base, any of 256: an enum would test it before these tests do.
     fn is_bad(self, roles: u8) -> bool {
         if self.attribute < 3 {
             5 < self.operator
@@ -45,6 +46,7 @@ impl Condition for GroupCondition {
         }
     }
 
+    // Byte by byte, as the rules have it: `!=` of a blank one would say the same of three bytes at once.
     fn is_nonzero(self) -> bool {
         (self.attribute != 0) | (self.operator != 0) | (self.value != 0)
     }

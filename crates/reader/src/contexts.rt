@@ -46,6 +46,7 @@ impl Condition for ContextCondition {
         }
     }
 
+    // Field by field, as the rules have it.
     fn is_nonzero(self) -> bool {
         (self.parameter != 0) | (self.operator != 0) | (self.value != 0)
     }

@@ -4,6 +4,7 @@ ghost use Rattle.release_list.specs.Text.{context_of, Listed, WholeListed};
 ghost use Rattle.release_list.specs.Writing.{IsBlank, SameBuffer, ReportListed};
 
 use crate::text::Page;
+use reader::Refusal;
 use weights::Context;
 
 // The context in the first four bytes of the input: minute (2 bytes), day, zone (1 byte each).
@@ -42,7 +43,7 @@ fn put_listing(page: &mut Page<'_>, input: &[u8])
     ensures text { Listed input.now page.old.out.now page.new.out.now page.new.len }
 {
     if input.len() < 4 {
-        page.put_count(b"refused ", 1);
+        page.put_count(b"refused ", Refusal::BaseLength.number());
     } else {
         put_report(page, &input[4..], context_of(input));
     }

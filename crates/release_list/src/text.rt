@@ -84,7 +84,7 @@ impl Page<'_> {
         requires { Parts parts.now n × HasRoom self.old (lines_text parts.now n) }
         ensures { Put (lines_text parts.now n) self.old self.new }
     {
-        // by number, for the line begins with it
+        // By number: a line begins with it, and the parts are told by it.
         for p in 0..n {
             let part = &parts[13 * usize::from(p)..];
             let k = part[0];

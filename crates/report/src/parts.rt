@@ -1,4 +1,5 @@
 // The 13 bytes of each permission.
+// That a base is accepted stands in clauses: `reader::check` says why.
 ghost use Rattle.std.specs.Prelude.{◌≡◌, ◌∷◌, ◌*◌, ◌≤◌, ◌<◌, length, replicate, IfSome, MatchOption};
 ghost use Rattle.reader.specs.Tables.{hierarchy, permission_count, role_count, table_of};
 ghost use Rattle.reader.specs.Rules.{refusal_of};
@@ -104,7 +105,7 @@ fn fill_in<const ROWS: usize, const PLACES: usize>(
         sets: [u64::MAX; 256],
     };
     let mut count: u32 = 0;
-    // A loop and no chain: of what a closure returns that changes the tables a proof knows nothing.
+    // A loop and no chain: what an adapter's closure returns that changes the tables no proof of this kit knows.
     for p in 0..reader::trailer::permission_count(base) {
         let part = part_for(base, s, p, &mut tables, &mut masks);
         let at = 13 * bytes::wide(p);

@@ -32,7 +32,8 @@ struct Level<'a> {
 }
 
 impl Level<'_> {
-    // Some clause of the row is met by the sum and by the set of place x, and it is reached.
+    // Some clause of the row is met by the sum and by the set of place x, and it is reached: its end isn't 255, as the
+    // tables keep it.
     fn met_at(&self, x: usize) -> bool
         requires { Roomy (suc x) self.now }
         ensures { result ≡ meets self.now x }

@@ -1,4 +1,5 @@
 // The entries that a sheet holds, and the refusals of a new one.
+// That a base is accepted stands in clauses: `reader::check` says why.
 ghost use Rattle.std.specs.Prelude.{◌≡◌, not};
 ghost use Rattle.reader.specs.Tables.{role_count, user_count};
 ghost use Rattle.reader.specs.Rules.{refusal_of};

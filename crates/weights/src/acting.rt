@@ -1,4 +1,5 @@
 // Who may act in a role: whoever holds it, or a role senior to it.
+// That a base is accepted stands in clauses: `reader::check` says why.
 ghost use Rattle.std.specs.Prelude.{◌≡◌};
 ghost use Rattle.folds.specs.Sets.{set_below};
 ghost use Rattle.reader.specs.Tables.{hierarchy, table_of};

@@ -17,6 +17,7 @@ pub fn out_of_range(at: Context) -> bool
     (1440 <= at.minute) | (7 <= at.day) | (256 <= at.zone)
 }
 
+// By the parameter's byte, of which the check has made sure.
 #[tactic(auto, unfolding(crate::specs::Contexts::value_of))]
 fn value_of(at: Context, parameter: u8) -> u32
     ensures { result ≡ value_of at parameter }

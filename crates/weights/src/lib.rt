@@ -1,5 +1,6 @@
 // Contexts, seniority and weights: what a base and a context fix, each role's weight for a permission, and who may act
 // in a role.
+// That a base is accepted stands in clauses: `reader::check` says why.
 #![tactic(auto)]
 
 ghost use Rattle.std.specs.Prelude.{◌≡◌, [], ◌≤◌, length};

@@ -63,7 +63,7 @@ pub fn choose(a: &[u8], contexts: u32, list: &[u8]) -> Chosen
         weight: [0; 128],
     };
     let mut one = any;
-    // No fold: its closure would hand on 512 bytes a turn.
+    // No fold: its closure would hand on 512 bytes a turn, and say no more than this.
     for i in 0..a.len() / 8 {
         let at = 8 * i;
         if in_force(contexts, a[at + 4]) {

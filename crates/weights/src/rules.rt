@@ -1,7 +1,7 @@
 // The rules of a resolution list, kept beside the setting.
 ghost use Rattle.std.specs.Prelude.{◌≡◌, ◌≤◌, length, take};
 
-// At most three rules, in their order.
+// At most three rules, in their order: a length beside them, for nothing is allocated.
 #[derive(Clone, Copy)]
 pub struct Rules {
     bytes: [u8; 3],
