@@ -98,9 +98,10 @@ fn fill_in<const ROWS: usize, const PLACES: usize>(
 {
     let roles = bytes::wide(reader::trailer::role_count(base));
     let mut tables = LevelTables::<ROWS, PLACES>::new(roles, nexts);
+    // Each is written before it is read; filled unlike they are cleared apart, by vectors and not byte by byte.
     let mut masks = Masks {
         sums: [0; 256],
-        sets: [0; 256],
+        sets: [u64::MAX; 256],
     };
     let mut count: u32 = 0;
     // A loop and no chain: of what a closure returns that changes the tables a proof knows nothing.
