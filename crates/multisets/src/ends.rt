@@ -5,9 +5,9 @@ ghost use Rattle.multisets.specs.Ends.{NextEnd, NextEnds, NextTable, Filled, Rel
 ghost use Rattle.multisets.specs.Levels.{Pushing};
 
 // The end after the next user from `from` on who may act in the role, or 255; `later` is that from the user after.
-fn end_from(sets: [u8; 24], later: u8, from: usize, role: u8) -> u8
-    requires { (length sets ≡ 24) × (from < 24) × (role < 8) }
-    ensures { NextEnd sets (from + 1) role later → NextEnd sets from role result }
+fn end_from(sets: &[u8; 24], later: u8, from: usize, role: u8) -> u8
+    requires { (from < 24) × (role < 8) }
+    ensures { NextEnd sets.now (from + 1) role later → NextEnd sets.now from role result }
 {
     if (sets[from] >> role) % 2 == 1 {
         (from + 1) as u8
@@ -17,9 +17,9 @@ fn end_from(sets: [u8; 24], later: u8, from: usize, role: u8) -> u8
 }
 
 // Inner: these ends, at 8 times a place and a role; users from `users` on may act in no role.
-pub fn next_ends(sets: [u8; 24], users: usize) -> [u8; 200]
-    requires { (length sets ≡ 24) × (users ≤ 24) × ((u : ℕ) → users ≤ u → get_or sets u 0 ≡ 0) }
-    ensures { NextEnds sets result × NextTable result }
+pub fn next_ends(sets: &[u8; 24], users: usize) -> [u8; 200]
+    requires { (users ≤ 24) × ((u : ℕ) → users ≤ u → get_or sets.now u 0 ≡ 0) }
+    ensures { NextEnds sets.now result × NextTable result }
 {
     let mut ends = [255u8; 200];
     // Each end may be the one eight places on, which is written before it.

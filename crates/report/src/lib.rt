@@ -59,5 +59,5 @@ fn fill(base: &[u8], s: Fixed, out: &mut [u8]) -> u32
     ensures { FilledBy (decided base.now s) (permission_count base.now) out.old out.new result }
 {
     let sets = parts::acting_sets(base, s.juniors);
-    parts::fill(base, s, sets, out)
+    parts::fill(base, s, &sets, out)
 }

@@ -117,8 +117,8 @@ fn fill_in<const ROWS: usize, const PLACES: usize>(
 
 // Inner: writes each permission's part; the number of permissions that have a group. Fewer roles take smaller tables:
 // the rows of multisets of at most four of them, and the multisets of at most six.
-pub fn fill(base: &[u8], fixed: Fixed, sets: [u8; 24], out: &mut [u8]) -> u32
-    requires { Settled base.now fixed × ActingSets base.now sets
+pub fn fill(base: &[u8], fixed: Fixed, sets: &[u8; 24], out: &mut [u8]) -> u32
+    requires { Settled base.now fixed × ActingSets base.now sets.now
         × (13 * permission_count base.now ≤ length out.old) }
     ensures { FilledBy (decided base.now fixed) (permission_count base.now) out.old out.new result }
 {

@@ -1,5 +1,5 @@
 -- The ends from a user on are made from those of the user after, role by role.
-use Rattle.std.proofs.Common.{ℕ, ◌+◌, ◌-◌, ◌/◌, ◌%◌, ◌≤◌, ◌<◌, List, ◌≡◌, refl, ◌∙◌, length, get_or, arith}
+use Rattle.std.proofs.Common.{ℕ, ◌+◌, ◌-◌, ◌/◌, ◌%◌, ◌≤◌, ◌<◌, List, ◌≡◌, refl, ◌∙◌, length, get_or, arith, rules}
 use lib.ListN.{set, length-set}
 use Rattle.multisets.specs.Ends.{NextEnd, NextEnds, NextTable}
 use Rattle.multisets.proofs.Nexts.{ends_start, ends_more, next_table}
@@ -31,12 +31,12 @@ turn_end {sets} {at} {ends} all last t =
 pub loop-at-init : goal.loop-at-init
 loop-at-init c =
     let p = c.requires in
-    record { size = refl; end = ends_start c.args.sets p.0 c.args.users p.1 p.2 }
+    record { size = refl; end = ends_start c.args.sets.now (search rules) c.args.users p.0 p.1 }
 
 pub loop-at-preserved : goal.loop-at-preserved
 loop-at-preserved c =
     let few : c.loop-at.at ≤ 192 = omega arith in
-    turn_more c.requires.0 c.loop-at-test.true few c.loop-at.invariant c.end_from.ensures
+    turn_more (search rules) c.loop-at-test.true few c.loop-at.invariant c.end_from.ensures
 
 pub returns : goal.returns
-returns c = turn_end c.requires.0 c.loop-at-test.false c.loop-at.invariant
+returns c = turn_end (search rules) c.loop-at-test.false c.loop-at.invariant

@@ -65,7 +65,7 @@ pub next_ends-nexts-requires : goal.next_ends-nexts-requires
 next_ends-nexts-requires c =
     let p = c.requires in
     let n = c.user_count.ensures in
-    (p.1.size, few_users p.1 p.0.accepted n, idle_past p.1 p.0.accepted n)
+    (few_users p.1 p.0.accepted n, idle_past p.1 p.0.accepted n)
 
 pub role_count-requires : goal.role_count-requires
 role_count-requires c = (framed _ (accepted_frame _ c.requires.0.accepted)).long
