@@ -1,6 +1,7 @@
 pub mod Apart
 pub mod Chains
 pub mod Conditions
+pub mod Loops
 pub mod Made
 pub mod Narrowing
 pub mod Owning
