@@ -8,3 +8,4 @@ pub mod Shown
 pub mod Standing
 pub mod Turned
 pub mod Users
+pub mod Loops

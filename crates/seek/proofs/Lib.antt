@@ -1,3 +1,4 @@
 pub mod ByPlace
 pub mod Eights
 pub mod OneLevel
+pub mod Loops

@@ -9,3 +9,4 @@ pub mod Steps
 pub mod Weigh
 pub mod Overrides
 pub mod Ranges
+pub mod Loops
