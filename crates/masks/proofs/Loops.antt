@@ -1,10 +1,10 @@
 -- Steps of the loops that stood where chains stand now; docs/PORT.md names them.
-use Prim.Native.Nat.{ℕ, ◌+◌, ◌*◌, ◌<◌, ◌≤◌}
+use Prim.Native.Nat.{ℕ, ◌+◌, ◌-◌, ◌*◌, ◌<◌, ◌≤◌}
 use mathlib.Core.Bool.{Bool}
 use mathlib.Core.Path.{◌≡◌, refl, ap, ◌∙◌}
 use mathlib.Core.Logic.{⊎_elim}
 use mathlib.Core.List.{List}
-use native.Mathlib.Nat.{lt_of_lt_of_le}
+use native.Mathlib.Nat.{lt_of_lt_of_le, le_trans, mul-le-mul_left, mul-le-mul_right}
 use native.Mathlib.Omega.{arith}
 use borrow.Author.Count.{below_none}
 use borrow.Author.Tests.{eqb-true, eqb-false, ltb-true, ltb-false}
@@ -18,7 +18,7 @@ use Rattle.decision.specs.Conditions.{role_num}
 use Rattle.masks.specs.declared.asked.Asked.{Asked}
 use Rattle.masks.specs.Asked.{Room}
 use Rattle.masks.specs.Clauses.{StruckAll, Filled}
-use Rattle.masks.specs.Rows.{Joined, RowFor}
+use Rattle.masks.specs.Rows.{Joined, RowFor, Rows}
 use Rattle.masks.specs.Sets.{RoleCounts, Doubled, NumbersFit}
 
 -- the first v of the masks are doubled
@@ -152,6 +152,25 @@ module _ {entries : List ℕ} {count sum light heavy reached m : ℕ} {sums rows
             r.each h;
         rest = λ n k. get_or-set_other rows m n row 0 (λ e. omega arith) ∙ r.rest n (omega arith);
       }
+
+  pub rows_all : m ≡ 7 - count → count ≤ 6 → Rows entries count sum light heavy reached sums rows
+  rows_all e l = record {
+    size = r.size;
+    each = λ n h. r.each n (omega arith);
+    past = λ n h. r.rest n (omega arith);
+  }
+
+-- the sums of n entries more are among the masks
+pub record Within (n count sum light heavy size : ℕ) : Type 0 where
+  pub number : count + n ≤ 6
+  pub low : n * light ≤ n * heavy
+  pub high : sum + n * heavy + 1 ≤ size
+
+pub sums_within : (n count sum light heavy size : ℕ) → count ≤ 6 → n < 7 - count → light ≤ heavy
+    → sum + (6 - count) * heavy + 1 ≤ size → Within n count sum light heavy size
+sums_within n count sum light heavy size few l h within =
+    let most : n * heavy ≤ (6 - count) * heavy = mul-le-mul_right heavy (omega arith) in
+    record { number = omega arith; low = mul-le-mul_left n h; high = le_trans (omega arith) within }
 
 -- one mask more
 pub filled_next : {x own : ℕ} {was masks : List ℕ} → x < length masks → Filled x own was masks
