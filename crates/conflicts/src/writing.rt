@@ -15,8 +15,8 @@ fn row_count(row: u64) -> u32
     row.count_ones()
 }
 
-// Writes the records of one row from place at on, the lowest bit first; the place behind them. The kind is the byte that
-// is written.
+// Writes the records of one row from place at on, the lowest bit first; the place behind them. The kind is the byte
+// that is written.
 fn write_row(out: &mut [u8], at: usize, kind: u8, first: u8, row: u64) -> usize
     requires { at + length (row_records kind first row) ≤ length out.old }
     ensures { (result ≡ at + length (row_records kind first row))

@@ -27,5 +27,6 @@ module _ {F C : Type 0} {g : Mut F (C × (ℕ × Unit {0})) C} {f : F} (n : ℕ)
       FoldsItems nat_range_steps g s f c r → J n r
   fold_of_range {s} {c} {r} whole j ran =
       let all = YieldsList-from_range 0 n n whole (omega arith) in
-      let items = sym (map-id ran.0) ∙ gives_Drains nat_range_steps (λ x. x) ran.0 (range_with_len 0 n) s all.runs ran.2 in
+      let items =
+      sym (map-id ran.0) ∙ gives_Drains nat_range_steps (λ x. x) ran.0 (range_with_len 0 n) s all.runs ran.2 in
       turns n 0 c r f ran.1 (omega arith) refl j (rw items at ran.3)

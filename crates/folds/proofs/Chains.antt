@@ -55,8 +55,8 @@ module _ (p : ℕ → Bool) where
       all_behind 0 n ∙ ap (λ i. list_all p (range_with_len 0 n) && p i) (omega arith) ∙ ap (λ t. t && p n) (all_chain n)
 
 -- what `any` and `all` answer over the numbers below n, by a closure that computes the test p
-module _ {F : Type 0} {g : Mut F (ℕ × Unit {0}) Bool} {s : Range ℕ} (p : ℕ → Bool) (n : ℕ) (u : Range ℕ) (f : F) (r : Bool)
-    (whole : s ≡ record { start = 0; end = n })
+module _ {F : Type 0} {g : Mut F (ℕ × Unit {0}) Bool} {s : Range ℕ} (p : ℕ → Bool) (n : ℕ) (u : Range ℕ) (f : F)
+    (r : Bool) (whole : s ≡ record { start = 0; end = n })
     (each : (x : ℕ) (b : Bool) (q : F) → Called g f (x, tt) b q → (q ≡ f) × (b ≡ p x)) where
   pub any_of_range : ChecksAny nat_range_steps g s f r u → r ≡ any_below n p
   any_of_range ran =

@@ -7,7 +7,8 @@ use Rattle.reader.specs.Tables.{role_count, permission_count, table_of, length_b
 use Rattle.reader.specs.Fields.{senior, junior, parameter, clause_permission, clause_length}
 use Rattle.reader.specs.Fields.{condition_attribute, condition_operator, condition_value}
 use Rattle.reader.specs.Fields.{context_number, context_length, context_parameter, context_operator, context_value}
-use Rattle.reader.specs.Fields.{condition_count, zero_byte14, zero_byte15, policy_role, policy_permission, policy_weight}
+use Rattle.reader.specs.Fields.{condition_count, zero_byte14, zero_byte15}
+use Rattle.reader.specs.Fields.{policy_role, policy_permission, policy_weight}
 use Rattle.reader.specs.Fields.{policy_type, policy_context, exclusion_kind, exclusion_first, exclusion_second}
 use Rattle.reader.specs.Codes.{parameter_ok}
 

@@ -1,5 +1,5 @@
-// The trailer: refusals 1 to 3, and where the tables lie. That a base passed them stands in clauses (`check` says why); a
-// table is a number where the trailer's places are read, and since `table` takes any.
+// The trailer: refusals 1 to 3, and where the tables lie. That a base passed them stands in clauses (`check` says why);
+// a table is a number where the trailer's places are read, and since `table` takes any.
 ghost use Rattle.std.specs.Prelude.{◌≡◌, ◌≤◌, ◌<◌, length};
 ghost use Rattle.reader.specs.Tables.{width, limit, table_offset, table_count, role_count, length_bad, letters_bad};
 ghost use Rattle.reader.specs.Tables.{reserved_bad, tables_bad, trailer_bad, frame_refusal, table_of};

@@ -120,13 +120,15 @@ module _ (rules b : List ℕ) (at : Context) (p : ℕ) (ok : refusal_of b ≡ 0)
       bytes = f.bytes;
     }
 
-    part_none : {n : ℕ} {bytes : List ℕ} → Answered sets w 0 (holds_with (table_of b clauses) p nobody) 6 n bytes → n ≡ 7 →
+    part_none : {n : ℕ} {bytes : List ℕ} →
+        Answered sets w 0 (holds_with (table_of b clauses) p nobody) 6 n bytes → n ≡ 7 →
         PartFor (decision_by rules b at) p (0 ∷ replicate 12 255)
     part_none a e = part_is
         (shown_none (table_of b clauses) p (tables_of sets w acting are) few_roles granted
         (of_decision rules b at p) is a e)
 
-    part_found : {n : ℕ} {bytes : List ℕ} → Answered sets w 0 (holds_with (table_of b clauses) p nobody) 6 n bytes → n ≤ 6 →
+    part_found : {n : ℕ} {bytes : List ℕ} →
+        Answered sets w 0 (holds_with (table_of b clauses) p nobody) 6 n bytes → n ≤ 6 →
         PartFor (decision_by rules b at) p (n ∷ bytes)
     part_found a few = part_is
         (shown_found (table_of b clauses) p (tables_of sets w acting are) few_roles granted
@@ -134,6 +136,7 @@ module _ (rules b : List ℕ) (at : Context) (p : ℕ) (ok : refusal_of b ≡ 0)
 
     pub part_with : {part : List ℕ} (o : Option Found) →
         AnsweredWith sets w 0 (holds_with (table_of b clauses) p nobody) 6 o →
-        MatchOption o (part ≡ 0 ∷ replicate 12 255) (λ f. part ≡ f.n ∷ f.group) → PartFor (decision_by rules b at) p part
+        MatchOption o (part ≡ 0 ∷ replicate 12 255) (λ f. part ≡ f.n ∷ f.group) →
+        PartFor (decision_by rules b at) p part
     part_with None a e = rw e (part_none a.answered refl)
     part_with (Some f) a e = rw e (part_found a.answered a.some)

@@ -63,7 +63,8 @@ module _ (by_sum by_set : List ℕ) where
     has = λ i b l g h.
         let summed : in_set (get_or by_sum (get_or (take n (drop x sums)) i 0) 0) b ≡ true = rw (there sums i l) g in
         let set : in_set (get_or by_set (get_or (take n (drop x roles)) i 0) 0) b ≡ true = rw (there roles i l) h in
-        joined_each (take n (drop x sums)) (take n (drop x roles)) 0 i b (long sums s i l) (long roles r i l) summed set;
+        joined_each (take n (drop x sums)) (take n (drop x roles)) 0 i b
+        (long sums s i l) (long roles r i l) summed set;
   }
     where
       there : (xs : List ℕ) (i : ℕ) → i < n → get_or (take n (drop x xs)) i 0 ≡ get_or xs (x + i) 0

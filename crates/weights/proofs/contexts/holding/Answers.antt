@@ -24,7 +24,8 @@ unfolding context_holds
 held at c s has = record {
   number = λ n l.
       rw (ne_eqb n 255 (λ q. omega arith))
-      (has n ∙ any_same _ (clause_of_holds at c n) (length c / 16) (λ i m. rw (in_one, eqb_sym) (and_comm (context_clause_holds at c i) (eqb (context_number c i) n))));
+      (has n ∙ any_same _ (clause_of_holds at c n) (length c / 16)
+      (λ i m. rw (in_one, eqb_sym) (and_comm (context_clause_holds at c i) (eqb (context_number c i) n))));
 }
 
 pub fold-requires-clause-callable : goal.fold-requires-clause-callable

@@ -110,7 +110,8 @@ loop-i-preserved c =
     let test = sym c.in_force.ensures in
     let any = c.loop-i.any in
     let one = c.loop-i.one in
-    let turn : Turn c.args.list.now c.args.contexts c.args.a.now any.policy one.policy any.weight one.weight c.loop-i.i =
+    let turn :
+    Turn c.args.list.now c.args.contexts c.args.a.now any.policy one.policy any.weight one.weight c.loop-i.i =
     record { any = h.any; one = h.one } in
     elim c.if-in_force.branch [
       | then-in_force+then-a-at-eq1 w ↦
