@@ -2,10 +2,11 @@
 #![tactic(auto)]
 
 ghost use Rattle.std.specs.Prelude.{◌≡◌};
-ghost use Rattle.reader.specs.Tables.{table_of, frame_refusal};
-ghost use Rattle.reader.specs.Rules.{refusal_of, records_refusal};
+ghost use Rattle.reader.specs.Tables.{table_of};
+ghost use Rattle.reader.specs.Rules.{refusal_of};
 ghost use Rattle.reader.specs.Refusals.{number_of, answer_from};
 
+mod base;
 pub mod bytes;
 pub mod clauses;
 pub mod codes;
@@ -16,8 +17,10 @@ mod refusal;
 mod tables;
 pub mod trailer;
 
+pub use base::{Base, accept};
 pub use refusal::{Refusal, Refused};
 pub use tables::Table;
+use trailer::Frame;
 
 // How many values a context's parameter has: minute, day, zone.
 pub const RANGES: [u16; 3] = [1440, 7, 256];
@@ -48,46 +51,16 @@ impl From<Result<u32, Refused>> for Answer {
 pub fn table(base: &[u8], t: usize) -> &[u8]
     ensures { result.now ≡ table_of base.now t }
 {
-    if t < 7 && trailer::frame_refusal(base).is_ok() {
-        return trailer::part_at(base, t);
+    match Frame::of(base) {
+        Ok(frame) if t < 7 => frame.part_at(t),
+        _ => &base[0..0],
     }
-    &base[0..0]
 }
 
 // Entry point: the base check, refusals 1 to 9.
-// That a base passed is said by clauses and not by a type: tried, a struct of the lent bytes has each clause say
-// `base.entry.bytes.now`.
 pub fn check(base: &[u8]) -> Result<(), Refusal>
     ensures { number_of result ≡ refusal_of base.now }
 {
-    trailer::frame_refusal(base)?;
-    records_refusal(base)
-}
-
-// Inner: refusals 4 to 9, of a base that passed 1 to 3.
-fn records_refusal(base: &[u8]) -> Result<(), Refusal>
-    requires { frame_refusal base.now ≡ 0 }
-    ensures { number_of result ≡ records_refusal base.now }
-{
-    let roles = trailer::role_count(base);
-    let permissions = trailer::permission_count(base);
-    if records::hierarchy_bad(trailer::part(base, Table::Hierarchy), roles) {
-        return Err(Refusal::Hierarchy);
-    }
-    if codes::users_bad(trailer::part(base, Table::Users), roles) {
-        return Err(Refusal::Users);
-    }
-    if clauses::clauses_bad(trailer::part(base, Table::Clauses), roles, permissions) {
-        return Err(Refusal::Clauses);
-    }
-    if contexts::contexts_bad(trailer::part(base, Table::Contexts)) {
-        return Err(Refusal::Contexts);
-    }
-    if records::policies_bad(trailer::part(base, Table::Policies), roles, permissions) {
-        return Err(Refusal::Policies);
-    }
-    if records::exclusions_bad(trailer::part(base, Table::Exclusions), roles, permissions) {
-        return Err(Refusal::Exclusions);
-    }
+    accept(base)?;
     Ok(())
 }

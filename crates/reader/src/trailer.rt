@@ -1,6 +1,6 @@
-// The trailer: refusals 1 to 3, and where the tables lie. That a base passed them stands in clauses (`check` says why);
-// a table is a number where the trailer's places are read, and since `table` takes any.
-ghost use Rattle.std.specs.Prelude.{◌≡◌, ◌≤◌, ◌<◌, length};
+// The trailer: refusals 1 to 3, and where the tables lie. A table is a number where the trailer's places are read, and
+// since `table` takes any.
+ghost use Rattle.std.specs.Prelude.{◌≡◌, ◌≤◌, ◌<◌, List, ℕ, IfOk, length};
 ghost use Rattle.reader.specs.Tables.{width, limit, table_offset, table_count, role_count, length_bad, letters_bad};
 ghost use Rattle.reader.specs.Tables.{reserved_bad, tables_bad, trailer_bad, frame_refusal, table_of};
 ghost use Rattle.reader.specs.Tables.{user_count, permission_count};
@@ -8,6 +8,7 @@ ghost use Rattle.reader.specs.Refusals.{number_of};
 ghost use Rattle.reader.specs.Places.{place_of};
 
 use crate::{Refusal, Table, bytes};
+use std::marker::Model;
 
 // A table's room: bytes a record, and records at most.
 #[derive(Clone, Copy)]
@@ -69,8 +70,7 @@ fn table_count(base: &[u8], t: usize) -> usize
     bytes::get16(base, base.len() - 36 + 4 * t + 2) as usize
 }
 
-// Inner: R.
-pub fn role_count(base: &[u8]) -> u8
+fn role_count(base: &[u8]) -> u8
     requires { 36 ≤ length base.now }
     ensures { result ≡ role_count base.now }
 {
@@ -140,8 +140,8 @@ fn trailer_bad(base: &[u8]) -> bool
     tables_bad(base)
 }
 
-// Inner: refusals 1 to 3.
-pub fn frame_refusal(base: &[u8]) -> Result<(), Refusal>
+// Refusals 1 to 3.
+fn frame_refusal(base: &[u8]) -> Result<(), Refusal>
     ensures { number_of result ≡ frame_refusal base.now }
 {
     if length_bad(base) {
@@ -156,36 +156,68 @@ pub fn frame_refusal(base: &[u8]) -> Result<(), Refusal>
     Ok(())
 }
 
-// Inner: table t of a base that passed 1 to 3.
-pub fn part_at(base: &[u8], t: usize) -> &[u8]
-    requires { (frame_refusal base.now ≡ 0) × (t < 7) }
-    ensures { result.now ≡ table_of base.now t }
-{
-    let a = table_offset(base, t);
-    let e = a + table_count(base, t) * room_of(t).width;
-    &base[a..e]
+// A lent base that passed 1 to 3, so that its tables can be read; seen as its bytes.
+#[derive(Drop)]
+pub struct Frame<'a> {
+    bytes: &'a [u8],
 }
 
-// Inner: a table of a base that passed 1 to 3.
-pub fn part(base: &[u8], table: Table) -> &[u8]
-    requires { frame_refusal base.now ≡ 0 }
-    ensures { result.now ≡ table_of base.now (place_of table) }
-{
-    part_at(base, table as usize)
+impl<'a> Model for Frame<'a> {
+    ghost Value = { List ℕ };
+
+    ghost view = { λ frame. frame.bytes.now };
+
+    ghost invariant = { λ frame. frame_refusal frame.bytes.now ≡ 0 };
 }
 
-// Inner: the number of users of a base that passed 1 to 3.
-pub fn user_count(base: &[u8]) -> usize
-    requires { frame_refusal base.now ≡ 0 }
-    ensures { result ≡ user_count base.now }
-{
-    part(base, Table::Users).len() / 4
-}
+impl<'a> Frame<'a> {
+    // Inner: refusals 1 to 3 of a base, or the base as one that passed them.
+    pub fn of(base: &'a [u8]) -> Result<Frame<'a>, Refusal>
+        ensures number { number_of result ≡ frame_refusal base.now }
+        ensures same { IfOk result (λ frame. frame ≡ base.now) }
+    {
+        frame_refusal(base)?;
+        Ok(Frame { bytes: base })
+    }
 
-// Inner: the number of permissions of a base that passed 1 to 3.
-pub fn permission_count(base: &[u8]) -> u8
-    requires { frame_refusal base.now ≡ 0 }
-    ensures { result ≡ permission_count base.now }
-{
-    (part(base, Table::Permissions).len() / 2) as u8
+    // Inner: table t.
+    pub fn part_at(&self, t: usize) -> &'a [u8]
+        requires { t < 7 }
+        ensures table { result.now ≡ table_of self.now t }
+        ensures framed { frame_refusal self.now ≡ 0 }
+    {
+        let base = self.bytes;
+        let a = table_offset(base, t);
+        let e = a + table_count(base, t) * room_of(t).width;
+        &base[a..e]
+    }
+
+    // Inner: a table.
+    pub fn part(&self, table: Table) -> &'a [u8]
+        ensures table { result.now ≡ table_of self.now (place_of table) }
+        ensures framed { frame_refusal self.now ≡ 0 }
+    {
+        self.part_at(table as usize)
+    }
+
+    // Inner: R.
+    pub fn role_count(&self) -> u8
+        ensures { (result ≡ role_count self.now) × (result ≤ 8) }
+    {
+        role_count(self.bytes)
+    }
+
+    // Inner: the number of users.
+    pub fn user_count(&self) -> usize
+        ensures { result ≡ user_count self.now }
+    {
+        self.part(Table::Users).len() / 4
+    }
+
+    // Inner: the number of permissions.
+    pub fn permission_count(&self) -> u8
+        ensures { result ≡ permission_count self.now }
+    {
+        (self.part(Table::Permissions).len() / 2) as u8
+    }
 }

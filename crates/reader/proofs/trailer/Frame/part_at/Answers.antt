@@ -1,9 +1,9 @@
 -- The trailer's offset and count of table t give the part that `table_of` names; `Frame` says that it lies in the base.
-use Rattle.std.proofs.Common.{ℕ, ◌+◌, ◌-◌, ◌*◌, ◌<◌, ◌≤◌, List, ◌≡◌, length, arith, rules}
+use Rattle.std.proofs.Common.{ℕ, ◌+◌, ◌-◌, ◌*◌, ◌<◌, ◌≤◌, List, ◌≡◌, ◌∙◌, ap, length, arith, rules}
 use native.Mathlib.Nat.{add-sub_cancel_left}
 use Rattle.reader.specs.Tables.{width, table_offset, table_count, frame_refusal, part_of, table_of}
 use Rattle.reader.proofs.Frame.{framed, size_le, table_end, table_is}
-use Rattle.reader.proofs.trailer.part_at.Goals as goal
+use Rattle.reader.proofs.trailer.Frame.part_at.Goals as goal
 
 -- what is read of table t: where it starts, how many records it has, and their width
 record Read (b : List ℕ) (t a n w : ℕ) : Type 0 where
@@ -24,27 +24,28 @@ module _ {b : List ℕ} {t a n w : ℕ} (r : Read b t a n w) where
   is_table = rw (table_is b r.ok t r.there, add-sub_cancel_left, r.a_is, r.n_is, r.w_is)
 
 pub table_offset-a-requires : goal.table_offset-a-requires
-table_offset-a-requires c = let f = framed _ c.requires.0 in search rules
+table_offset-a-requires c = let f = framed _ c.self.invariant in search rules
 
 pub table_count-requires : goal.table_count-requires
-table_count-requires c = let f = framed _ c.requires.0 in search rules
+table_count-requires c = let f = framed _ c.self.invariant in search rules
 
 pub slice_bounds-result-end : goal.slice_bounds-result-end
 slice_bounds-result-end c =
     inside (record {
-      ok = c.requires.0;
-      there = c.requires.1;
+      ok = c.self.invariant;
+      there = c.requires;
       a_is = c.table_offset-a.ensures.0;
       n_is = c.table_count.ensures.0;
       w_is = c.room_of.ensures.0;
     })
 
-pub returns : goal.returns
-returns c =
+pub returns-clause-table : goal.returns-clause-table
+returns-clause-table c =
     is_table (record {
-      ok = c.requires.0;
-      there = c.requires.1;
+      ok = c.self.invariant;
+      there = c.requires;
       a_is = c.table_offset-a.ensures.0;
       n_is = c.table_count.ensures.0;
       w_is = c.room_of.ensures.0;
     })
+    ∙ ap (λ (b : List ℕ). table_of b c.args.t) c.self.view_is
