@@ -1,12 +1,12 @@
 // Which policy overrides which: a resolution list of rules.
 #![tactic(auto)]
 
-ghost use Rattle.std.specs.Prelude.{◌≡◌, ◌+◌, ◌*◌, ◌≤◌, ◌<◌, length, take};
+ghost use Rattle.std.specs.Prelude.{◌≡◌, ◌+◌, ◌*◌, ◌≤◌, ◌<◌, IfOk, length, take};
 ghost use Rattle.reader.specs.Refusals.{number_of};
 ghost use Rattle.resolution.specs.Rules.{byte_of, Names};
 ghost use Rattle.resolution.specs.Resolution.{rule_before, goes_before, repeated, list_refused, lent};
 
-use reader::{Refusal, bytes};
+use reader::{Base, Refusal, bytes};
 
 // What goes first of two policies: the later issue day, the larger rank number or the smaller weight.
 #[derive(Clone, Copy)]
@@ -65,15 +65,16 @@ fn list_refused(list: &[u8]) -> bool
     (0..list.len()).any(|k| is_repeated(list, k) || Rule::try_from(list[k]).is_err())
 }
 
-// Inner: refusals 1 to 9 of the base and 22 of the list.
-pub fn lent_refusal(base: &[u8], list: &[u8]) -> Result<(), Refusal>
-    ensures { number_of result ≡ lent list.now base.now 0 }
+// Inner: refusals 1 to 9 of the base and 22 of the list, or the base as one that is accepted.
+pub fn accept<'a>(base: &'a [u8], list: &[u8]) -> Result<Base<'a>, Refusal>
+    ensures number { number_of result ≡ lent list.now base.now 0 }
+    ensures same { IfOk result (λ accepted. accepted ≡ base.now) }
 {
-    reader::check(base)?;
+    let accepted = reader::accept(base)?;
     if list_refused(list) {
         return Err(Refusal::Rules);
     }
-    Ok(())
+    Ok(accepted)
 }
 
 // Inner: the bytes of a list of at most three, from the front of an array.

@@ -1,11 +1,9 @@
 // Contexts, seniority and weights: what a base and a context fix, each role's weight for a permission, and who may act
 // in a role.
-// That a base is accepted stands in clauses: `reader::check` says why.
 #![tactic(auto)]
 
 ghost use Rattle.std.specs.Prelude.{◌≡◌, [], ◌≤◌, length};
 ghost use Rattle.reader.specs.Tables.{hierarchy, table_of};
-ghost use Rattle.reader.specs.Rules.{refusal_of};
 ghost use Rattle.weights.specs.Setting.{Juniors, rules_of, FixedBy, ChosenBy};
 
 pub mod acting;
@@ -19,6 +17,7 @@ pub mod seniority;
 pub mod sets;
 
 pub use chosen::Chosen;
+use reader::{Base, Table};
 pub use rules::Rules;
 
 // A context: parameters 0, 1 and 2 are the minute, the day and the zone.
@@ -41,27 +40,25 @@ pub struct Fixed {
 
 // Inner: the juniors of each role of an accepted base. A type for them could say nothing of the base's table, which
 // their bytes don't name.
-pub fn juniors_of_base(base: &[u8]) -> [u8; 8]
-    requires { refusal_of base.now ≡ 0 }
+pub fn juniors_of_base(base: &Base<'_>) -> [u8; 8]
     ensures { Juniors (table_of base.now hierarchy) result }
 {
-    seniority::juniors(reader::trailer::part(base, reader::Table::Hierarchy))
+    seniority::juniors(base.part(Table::Hierarchy))
 }
 
 // Inner: the setting of an accepted base without a list.
-pub fn setting(base: &[u8], at: Context) -> Fixed
-    requires { refusal_of base.now ≡ 0 }
+pub fn setting(base: &Base<'_>, at: Context) -> Fixed
     ensures { (result.at ≡ at) × (rules_of result ≡ []) × FixedBy base.now result }
 {
     setting_by(base, at, &[])
 }
 
 // Inner: the setting of an accepted base with a list of at most three rules.
-pub fn setting_by(base: &[u8], at: Context, list: &[u8]) -> Fixed
-    requires { (refusal_of base.now ≡ 0) × (length list.now ≤ 3) }
+pub fn setting_by(base: &Base<'_>, at: Context, list: &[u8]) -> Fixed
+    requires { length list.now ≤ 3 }
     ensures { (result.at ≡ at) × (rules_of result ≡ list.now) × FixedBy base.now result }
 {
-    let contexts = contexts::holding(reader::trailer::part(base, reader::Table::Contexts), at);
+    let contexts = contexts::holding(base.part(Table::Contexts), at);
     let juniors = juniors_of_base(base);
     Fixed {
         at,
@@ -73,10 +70,10 @@ pub fn setting_by(base: &[u8], at: Context, list: &[u8]) -> Fixed
 
 // Inner: for each role and permission of an accepted base, of which s is a setting, the weight of the policy that
 // counts by the rules of s, or 0.
-pub fn choose(base: &[u8], s: Fixed) -> Chosen
-    requires { (refusal_of base.now ≡ 0) × FixedBy base.now s }
+pub fn choose(base: &Base<'_>, s: Fixed) -> Chosen
+    requires { FixedBy base.now s }
     ensures { ChosenBy (rules_of s) base.now s.at result.own result.inh }
 {
-    let a = reader::trailer::part(base, reader::Table::Policies);
+    let a = base.part(Table::Policies);
     policies::choose(a, s.contexts, s.rules.as_slice())
 }

@@ -2,7 +2,6 @@
 use Rattle.std.proofs.Common.{◌≡◌, ℕ, ◌≤◌, ◌/◌, List, length, false}
 use Rattle.reader.specs.Tables.{policies, table_of}
 use Rattle.reader.specs.Rules.{policies_bad, refusal_of}
-use Rattle.reader.proofs.Accepted.{accepted}
 use Rattle.weights.specs.declared.Fixed.{Fixed}
 use Rattle.weights.specs.Setting.{rules_of, FixedBy, AreChosen, ChosenBy}
 use Rattle.weights.proofs.Weigh.{policies_small, policies_short, chosen_by}
@@ -20,14 +19,11 @@ module _ {b t : List ℕ} {s : Fixed} (ok : refusal_of b ≡ 0) (fixed : FixedBy
       AreChosen rules s.contexts t (length t / 8) owns inhs → ChosenBy (rules_of s) b s.at owns inhs
   by_rules {rules} same are = rw same at (chosen_by b ok s fixed rules (rw is at are))
 
-pub part-a-requires : goal.part-a-requires
-part-a-requires c = (accepted _ c.requires.0).frame
-
 pub choose-requires : goal.choose-requires
 choose-requires c =
-    let (ok, fixed) = c.requires in
-    (passed ok fixed c.part-a.ensures, short ok fixed c.part-a.ensures)
+    let a = c.part-a.ensures in
+    (passed a.accepted c.requires a.table, short a.accepted c.requires a.table)
 
 pub returns : goal.returns
 returns c =
-    by_rules c.requires.0 c.requires.1 c.part-a.ensures c.as_slice.ensures c.choose.ensures
+    by_rules c.part-a.ensures.accepted c.requires c.part-a.ensures.table c.as_slice.ensures c.choose.ensures

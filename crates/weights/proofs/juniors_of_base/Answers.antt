@@ -4,10 +4,7 @@ use Rattle.reader.proofs.Accepted.{accepted}
 use Rattle.weights.proofs.Chains.{hierarchy_wider}
 use Rattle.weights.proofs.juniors_of_base.Goals as goal
 
-pub part-requires : goal.part-requires
-part-requires c = (accepted _ c.requires).frame
-
 pub juniors-requires : goal.juniors-requires
 juniors-requires c =
-    let fine = accepted _ c.requires in
-    rw c.part.ensures (hierarchy_wider _ _ (roles_range _ fine.frame).1 fine.hierarchy)
+    let fine = accepted _ c.part.ensures.accepted in
+    rw c.part.ensures.table (hierarchy_wider _ _ (roles_range _ fine.frame).1 fine.hierarchy)

@@ -6,8 +6,6 @@ use Rattle.folds.proofs.Tests.{any_same}
 use Rattle.reader.specs.Tables.{users, hierarchy, role_count, table_of}
 use Rattle.reader.specs.Codes.{held_by}
 use Rattle.reader.specs.Rules.{refusal_of}
-use Rattle.reader.proofs.Frame.{framed, roles_range}
-use Rattle.reader.proofs.Accepted.{accepted_frame}
 use Rattle.weights.specs.Acting.{may_act}
 use Rattle.weights.specs.Setting.{Juniors}
 use Rattle.weights.proofs.Folding.{fold_callable, fold_gathers}
@@ -25,24 +23,16 @@ module _ (R : ℕ) (us juniors : List ℕ) (u set : ℕ) where
       acting_set b ok juniors are u set
       (λ r. rw (← us_are, ← R_is) (has r ∙ any_same _ (gives R us juniors u r) 8 (λ s l. rw in_with)))
 
-pub part-users-requires : goal.part-users-requires
-part-users-requires c = accepted_frame _ c.requires.0
-
-pub role_count-roles-requires : goal.role_count-roles-requires
-role_count-roles-requires c = (framed _ (accepted_frame _ c.requires.0)).long
-
 pub fold-requires-clause-callable : goal.fold-requires-clause-callable
 fold-requires-clause-callable c =
     fold_callable 8 (cc) (λ a x b q k. search (rules, tests))
-    (λ a x l. let few = roles_range _ (accepted_frame _ c.requires.0) in
-    let is = c.role_count-roles.ensures in
-    search rules)
+    (λ a x l. let few = c.role_count-roles.ensures.1 in search rules)
 
-pub returns : goal.returns
-returns c =
+pub returns-clause-roles : goal.returns-clause-roles
+returns-clause-roles c =
     let R = c.role_count-roles.result in
     let us = c.part-users.result.now in
     finished R us c.args.juniors c.args.user _
     (fold_gathers (held_by R us c.args.user) (λ s. bit_or (2 ^ s) (get_or c.args.juniors s 0)) 8 _ (cc)
     (λ a x b q k. search (rules, tests)) c.fold.ensures.ran)
-    _ c.requires.0 c.requires.1 c.part-users.ensures c.role_count-roles.ensures
+    _ c.part-users.ensures.accepted c.requires c.part-users.ensures.table c.role_count-roles.ensures.0

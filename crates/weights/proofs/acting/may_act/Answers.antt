@@ -13,7 +13,8 @@ in_acting b ok u r set_is is = is ∙ ap (λ (s : ℕ). in_set s r) set_is ∙ a
 
 pub returns-else-role-lt8 : goal.returns-else-role-lt8
 returns-else-role-lt8 c =
-    le-ltb _ _ c.if-role-lt8.false ∙ sym (acting_past _ c.requires.0 _ _ c.if-role-lt8.false)
+    le-ltb _ _ c.if-role-lt8.false ∙ sym (acting_past _ c.acting_roles-roles.ensures.accepted _ _ c.if-role-lt8.false)
 
 pub returns-then-role-lt8 : goal.returns-then-role-lt8
-returns-then-role-lt8 c = in_acting _ c.requires.0 _ _ c.acting_roles.ensures c.in_set.ensures
+returns-then-role-lt8 c =
+    in_acting _ c.acting_roles-roles.ensures.accepted _ _ c.acting_roles-roles.ensures.roles c.in_set.ensures
