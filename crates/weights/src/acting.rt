@@ -1,5 +1,5 @@
 // Who may act in a role: whoever holds it, or a role senior to it.
-ghost use Rattle.std.specs.Prelude.{◌≡◌};
+ghost use Rattle.std.specs.Prelude.{◌≡◌, List, ℕ};
 ghost use Rattle.folds.specs.Sets.{set_below};
 ghost use Rattle.reader.specs.Tables.{hierarchy, table_of};
 ghost use Rattle.reader.specs.Rules.{refusal_of};
@@ -8,30 +8,54 @@ ghost use Rattle.weights.specs.Setting.{Juniors};
 
 use crate::{seniority, sets};
 use reader::{Base, Table, codes};
+use std::marker::Model;
 
-// Inner: the set of the roles in which the user may act, of an accepted base with these juniors: the roles held and
-// their juniors.
-pub fn acting_roles(base: &Base<'_>, juniors: [u8; 8], user: usize) -> u8
-    requires { Juniors (table_of base.now hierarchy) juniors }
-    ensures roles { result ≡ set_below 8 (may_act base.now user) }
-    ensures accepted { refusal_of base.now ≡ 0 }
-{
-    let users = base.part(Table::Users);
-    let roles = base.role_count();
-    (0..8u8).fold(0, |set, s| {
-        if codes::held_by(users, roles, user, s as usize) {
-            set | seniority::with_juniors(s, juniors)
-        } else {
-            set
-        }
-    })
+// An accepted base with each role's juniors, seen as the base's bytes.
+#[derive(Drop)]
+pub struct Acting<'a> {
+    base: &'a Base<'a>,
+    juniors: [u8; 8],
 }
 
-// Inner: the user may act in the role; neither need be there.
-pub fn may_act(base: &Base<'_>, juniors: [u8; 8], user: usize, role: usize) -> bool
-    requires { Juniors (table_of base.now hierarchy) juniors }
-    ensures { result ≡ may_act base.now user role }
-{
-    let roles = acting_roles(base, juniors, user);
-    role < 8 && sets::in_set(roles as u32, role as u8)
+impl<'a> Model for Acting<'a> {
+    ghost Value = { List ℕ };
+
+    ghost view = { λ acting. acting.base.now };
+
+    ghost invariant = { λ acting. Juniors (table_of acting.base.now hierarchy) acting.juniors };
+}
+
+impl<'a> Acting<'a> {
+    // Inner: who may act, by the base with these juniors.
+    pub fn by(base: &'a Base<'a>, juniors: [u8; 8]) -> Acting<'a>
+        requires { Juniors (table_of base.now hierarchy) juniors }
+        ensures { result ≡ base.now }
+    {
+        Acting { base, juniors }
+    }
+
+    // Inner: the set of the roles in which the user may act: the roles held and their juniors.
+    pub fn roles(&self, user: usize) -> u8
+        ensures roles { result ≡ set_below 8 (may_act self.now user) }
+        ensures accepted { refusal_of self.now ≡ 0 }
+    {
+        let juniors = self.juniors;
+        let users = self.base.part(Table::Users);
+        let roles = self.base.role_count();
+        (0..8u8).fold(0, |set, s| {
+            if codes::held_by(users, roles, user, s as usize) {
+                set | seniority::with_juniors(s, juniors)
+            } else {
+                set
+            }
+        })
+    }
+
+    // Inner: the user may act in the role; neither need be there.
+    pub fn may_act(&self, user: usize, role: usize) -> bool
+        ensures { result ≡ may_act self.now user role }
+    {
+        let roles = self.roles(user);
+        role < 8 && sets::in_set(roles as u32, role as u8)
+    }
 }

@@ -5,7 +5,7 @@ use Rattle.folds.specs.Sets.{in_set, set_below}
 use Rattle.reader.specs.Rules.{refusal_of}
 use Rattle.weights.specs.Acting.{may_act}
 use Rattle.weights.proofs.MayAct.{acting_past, acting_in}
-use Rattle.weights.proofs.acting.may_act.Goals as goal
+use Rattle.weights.proofs.acting.Acting.may_act.Goals as goal
 
 in_acting : (b : List ℕ) → refusal_of b ≡ 0 → (u r : ℕ) {set : ℕ} {may : Bool} → set ≡ set_below 8 (may_act b u) →
     may ≡ in_set set r → may ≡ may_act b u r
@@ -13,8 +13,8 @@ in_acting b ok u r set_is is = is ∙ ap (λ (s : ℕ). in_set s r) set_is ∙ a
 
 pub returns-else-role-lt8 : goal.returns-else-role-lt8
 returns-else-role-lt8 c =
-    le-ltb _ _ c.if-role-lt8.false ∙ sym (acting_past _ c.acting_roles-roles.ensures.accepted _ _ c.if-role-lt8.false)
+    le-ltb _ _ c.if-role-lt8.false ∙ sym (acting_past _ c.roles-roles.ensures.accepted _ _ c.if-role-lt8.false)
 
 pub returns-then-role-lt8 : goal.returns-then-role-lt8
 returns-then-role-lt8 c =
-    in_acting _ c.acting_roles-roles.ensures.accepted _ _ c.acting_roles-roles.ensures.roles c.in_set.ensures
+    in_acting _ c.roles-roles.ensures.accepted _ _ c.roles-roles.ensures.roles c.in_set.ensures

@@ -1,5 +1,5 @@
 -- The roles gathered are those held, each with its juniors.
-use Rattle.std.proofs.Common.{◌≡◌, ℕ, ◌^◌, List, ◌&&◌, get_or, bit_or, ◌∙◌, rules, tests}
+use Rattle.std.proofs.Common.{◌≡◌, ℕ, ◌^◌, List, ◌&&◌, get_or, bit_or, ap, ◌∙◌, rules, tests}
 use Rattle.folds.specs.Below.{any_below}
 use Rattle.folds.specs.Sets.{in_set, set_below}
 use Rattle.folds.proofs.Tests.{any_same}
@@ -11,7 +11,7 @@ use Rattle.weights.specs.Setting.{Juniors}
 use Rattle.weights.proofs.Folding.{fold_callable, fold_gathers}
 use Rattle.weights.proofs.MayAct.{gives, acting_set}
 use Rattle.weights.proofs.Steps.{in_with}
-use Rattle.weights.proofs.acting.acting_roles.Goals as goal
+use Rattle.weights.proofs.acting.Acting.roles.Goals as goal
 
 -- of plain values
 module _ (R : ℕ) (us juniors : List ℕ) (u set : ℕ) where
@@ -32,7 +32,9 @@ pub returns-clause-roles : goal.returns-clause-roles
 returns-clause-roles c =
     let R = c.role_count-roles.result in
     let us = c.part-users.result.now in
-    finished R us c.args.juniors c.args.user _
-    (fold_gathers (held_by R us c.args.user) (λ s. bit_or (2 ^ s) (get_or c.args.juniors s 0)) 8 _ (cc)
+    let juniors = c.self.inside.juniors in
+    finished R us juniors c.args.user _
+    (fold_gathers (held_by R us c.args.user) (λ s. bit_or (2 ^ s) (get_or juniors s 0)) 8 _ (cc)
     (λ a x b q k. search (rules, tests)) c.fold.ensures.ran)
-    _ c.part-users.ensures.accepted c.requires c.part-users.ensures.table c.role_count-roles.ensures.0
+    _ c.part-users.ensures.accepted c.self.invariant c.part-users.ensures.table c.role_count-roles.ensures.0
+    ∙ ap (λ b. set_below 8 (may_act b c.args.user)) c.self.view_is
