@@ -1,12 +1,10 @@
 // A group's entries and its attributes: refusals 12 to 16.
-// That a base is accepted stands in clauses: `reader::check` says why.
 ghost use Rattle.std.specs.Prelude.{◌≡◌, ℕ, ◌+◌, ◌*◌, ◌≤◌, ◌<◌, length, get_or};
-ghost use Rattle.reader.specs.Tables.{hierarchy, table_of};
-ghost use Rattle.reader.specs.Rules.{refusal_of};
 ghost use Rattle.weights.specs.Acting.{may_act};
-ghost use Rattle.weights.specs.Setting.{Juniors};
 ghost use Rattle.decision.specs.Groups.{entry_count, entry_user, entry_role, sum_of, roles_of, length_refused};
 ghost use Rattle.decision.specs.Groups.{some_unknown, stands_before, some_twice, some_ineligible, some_weightless};
+
+use weights::acting::Acting;
 
 // An entry of a group: a user, and the role acted in.
 #[derive(Clone, Copy)]
@@ -59,14 +57,13 @@ pub fn some_twice(g: &[u8]) -> bool
     (0..g.len() / 2).any(|i| stands_before(g, i))
 }
 
-// Inner: refusal 15, by an accepted base with these juniors.
-pub fn some_ineligible(g: &[u8], base: &[u8], juniors: [u8; 8]) -> bool
-    requires { (refusal_of base.now ≡ 0) × Juniors (table_of base.now hierarchy) juniors }
-    ensures { result ≡ some_ineligible (may_act base.now) g.now }
+// Inner: refusal 15, by who may act in a role.
+pub fn some_ineligible(g: &[u8], acting: &Acting<'_>) -> bool
+    ensures { result ≡ some_ineligible (may_act acting.now) g.now }
 {
     (0..g.len() / 2).any(|i| {
         let Entry { user, role } = Entry::of(g, i);
-        !weights::acting::may_act(base, juniors, user as usize, role as usize)
+        !acting.may_act(user as usize, role as usize)
     })
 }
 

@@ -1,16 +1,15 @@
 // The decision: whether a group is granted a permission, by the first refusal of 1 to 17, and of 22 where a list is
 // lent, that applies.
-// That a base is accepted stands in clauses: `reader::check` says why.
 #![tactic(auto)]
 
 ghost use Rattle.std.specs.Prelude.{◌≡◌, ◌<◌};
-ghost use Rattle.reader.specs.Tables.{hierarchy, permission_count, table_of};
-ghost use Rattle.reader.specs.Rules.{refusal_of};
+ghost use Rattle.reader.specs.Tables.{permission_count};
 ghost use Rattle.reader.specs.Refusals.{number_of};
-ghost use Rattle.weights.specs.Setting.{Juniors, rules_of, FixedBy};
+ghost use Rattle.weights.specs.Setting.{rules_of, FixedBy};
 ghost use Rattle.decision.specs.Decision.{members_of, group_decision, asking, decision_of, decision_lent};
 
-use reader::Refusal;
+use reader::{Base, Refusal, Table};
+use weights::acting::Acting;
 use weights::{Context, Fixed};
 
 pub mod conditions;
@@ -22,10 +21,10 @@ use conditions::Attributes;
 pub fn decide(base: &[u8], permission: u32, at: Context, group: &[u8]) -> Result<(), Refusal>
     ensures { number_of result ≡ decision_of base.now at permission group.now }
 {
-    reader::check(base)?;
-    asking_refusal(base, permission, at)?;
-    let s = weights::setting(base, at);
-    decide_checked(base, permission as u8, s, group)
+    let base = reader::accept(base)?;
+    asking_refusal(&base, permission, at)?;
+    let s = weights::setting(&base, at);
+    decide_checked(&base, permission as u8, s, group)
 }
 
 // Entry point: the same by a resolution list; the first refusal of 1 to 9, 22 of the list, and 10 to 17 that applies.
@@ -38,18 +37,17 @@ pub fn decide_by(
 ) -> Result<(), Refusal>
     ensures { number_of result ≡ decision_lent list.now base.now at permission group.now }
 {
-    resolution::lent_refusal(base, list)?;
-    asking_refusal(base, permission, at)?;
-    let s = weights::setting_by(base, at, list);
-    decide_checked(base, permission as u8, s, group)
+    let base = resolution::accept(base, list)?;
+    asking_refusal(&base, permission, at)?;
+    let s = weights::setting_by(&base, at, list);
+    decide_checked(&base, permission as u8, s, group)
 }
 
 // Refusals 10 and 11 for an accepted base.
-fn asking_refusal(base: &[u8], permission: u32, at: Context) -> Result<(), Refusal>
-    requires { refusal_of base.now ≡ 0 }
+fn asking_refusal(base: &Base<'_>, permission: u32, at: Context) -> Result<(), Refusal>
     ensures { number_of result ≡ asking base.now at permission 0 }
 {
-    if reader::trailer::permission_count(base) as u32 <= permission {
+    if u32::from(base.permission_count()) <= permission {
         return Err(Refusal::Permission);
     }
     if weights::contexts::out_of_range(at) {
@@ -58,40 +56,41 @@ fn asking_refusal(base: &[u8], permission: u32, at: Context) -> Result<(), Refus
     Ok(())
 }
 
-// Inner: refusals 12 to 15 for an accepted base with these juniors.
-pub fn members_refusal(base: &[u8], juniors: [u8; 8], group: &[u8]) -> Result<(), Refusal>
-    requires { (refusal_of base.now ≡ 0) × Juniors (table_of base.now hierarchy) juniors }
-    ensures { number_of result ≡ members_of base.now group.now }
+// Inner: refusals 12 to 15, by who may act in a role.
+pub fn members_refusal(acting: &Acting<'_>, group: &[u8]) -> Result<(), Refusal>
+    ensures { number_of result ≡ members_of acting.now group.now }
 {
     if groups::length_refused(group) {
         return Err(Refusal::GroupLength);
     }
-    let roles = reader::trailer::role_count(base);
-    if groups::some_unknown(group, reader::trailer::user_count(base), roles) {
+    if groups::some_unknown(group, acting.user_count(), acting.role_count()) {
         return Err(Refusal::Unknown);
     }
     if groups::some_twice(group) {
         return Err(Refusal::Twice);
     }
-    if groups::some_ineligible(group, base, juniors) {
+    if groups::some_ineligible(group, acting) {
         return Err(Refusal::Ineligible);
     }
     Ok(())
 }
 
 // Inner: refusals 12 to 17 for an accepted base, a permission that is there and a setting of that base, by its rules.
-pub fn decide_checked(base: &[u8], permission: u8, s: Fixed, group: &[u8]) -> Result<(), Refusal>
-    requires { (refusal_of base.now ≡ 0) × (permission < permission_count base.now) × FixedBy base.now s }
+pub fn decide_checked(
+    base: &Base<'_>,
+    permission: u8,
+    s: Fixed,
+    group: &[u8],
+) -> Result<(), Refusal>
+    requires { (permission < permission_count base.now) × FixedBy base.now s }
     ensures { number_of result ≡ group_decision (rules_of s) base.now s.at permission group.now }
 {
-    let juniors = s.juniors;
-    members_refusal(base, juniors, group)?;
-    let chosen = weights::choose(base, s);
-    let w = chosen.role_weights(juniors, permission);
+    members_refusal(&Acting::by(base, s.juniors), group)?;
+    let k = base.part(Table::Clauses);
+    let w = weights::choose(base, s).role_weights(s.juniors, permission);
     if groups::some_weightless(group, w) {
         return Err(Refusal::Weightless);
     }
-    let k = reader::trailer::part(base, reader::Table::Clauses);
     let attributes = Attributes {
         entries: groups::entry_count(group),
         sum: groups::sum_of(group, w),

@@ -2,7 +2,7 @@
 -- field.
 use Prim.Native.Nat.{ℕ, ◌+◌, ◌*◌, ◌^◌, ◌<◌, ◌≤◌}
 use mathlib.Core.Bool.{Bool, true, false, ◌&&◌, ◌||◌, not, cond}
-use mathlib.Core.Path.{◌≡◌, refl, sym, ◌∙◌}
+use mathlib.Core.Path.{◌≡◌, refl, ap, sym, ◌∙◌}
 use mathlib.Core.List.{List}
 use native.Mathlib.Omega.{arith}
 use native.Mathlib.Nat.{suc-ne-zero, mul-suc, mul_comm, div-mul-le_self, mul-le-mul_left, le_trans}
@@ -56,6 +56,10 @@ refused_records b = by (length_bad b) (letters_bad b) (trailer_bad b) (records_r
     by false true z r h = absurd (suc-ne-zero 1 h)
     by false false true r h = absurd (suc-ne-zero 2 h)
     by false false false r h = refl
+
+-- a base that the check answers with 0, under the name that it is handed on by
+pub accepted_as : {a b : List ℕ} → a ≡ b → 0 ≡ refusal_of b → refusal_of a ≡ 0
+accepted_as same is = ap refusal_of same ∙ sym is
 
 -- a base that passes the check has its tables
 pub accepted_frame : (b : List ℕ) → refusal_of b ≡ 0 → frame_refusal b ≡ 0

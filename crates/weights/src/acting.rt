@@ -1,7 +1,7 @@
 // Who may act in a role: whoever holds it, or a role senior to it.
-ghost use Rattle.std.specs.Prelude.{◌≡◌, List, ℕ};
+ghost use Rattle.std.specs.Prelude.{◌≡◌, ◌≤◌, List, ℕ};
 ghost use Rattle.folds.specs.Sets.{set_below};
-ghost use Rattle.reader.specs.Tables.{hierarchy, table_of};
+ghost use Rattle.reader.specs.Tables.{hierarchy, table_of, role_count, user_count};
 ghost use Rattle.reader.specs.Rules.{refusal_of};
 ghost use Rattle.weights.specs.Acting.{may_act};
 ghost use Rattle.weights.specs.Setting.{Juniors};
@@ -32,6 +32,20 @@ impl<'a> Acting<'a> {
         ensures { result ≡ base.now }
     {
         Acting { base, juniors }
+    }
+
+    // Inner: R.
+    pub fn role_count(&self) -> u8
+        ensures { (result ≡ role_count self.now) × (result ≤ 8) }
+    {
+        self.base.role_count()
+    }
+
+    // Inner: the number of users.
+    pub fn user_count(&self) -> usize
+        ensures { result ≡ user_count self.now }
+    {
+        self.base.user_count()
     }
 
     // Inner: the set of the roles in which the user may act: the roles held and their juniors.

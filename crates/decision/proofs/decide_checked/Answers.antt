@@ -1,7 +1,7 @@
 -- `decide_checked` meets its contract: 12 to 15 by `members_refusal`, then 16 and 17 by the weights.
 use Rattle.std.proofs.Common.{ℕ, Bool, true, false, List, length, get_or, ◌≡◌, ◌<◌, ◌≤◌}
 use mathlib.Core.Bool.{cond}
-use mathlib.Core.Path.{sym, ◌∙◌}
+use mathlib.Core.Path.{ap, sym, ◌∙◌}
 use native.Mathlib.Nat.{lt_of_lt_of_le}
 use Rattle.folds.proofs.Bools.{refused, unrefused}
 use Rattle.reader.specs.Tables.{clauses, role_count, table_of, user_count}
@@ -13,7 +13,6 @@ use Rattle.weights.specs.declared.Context.{Context}
 use Rattle.weights.specs.Weights.{weight}
 use Rattle.weights.specs.Setting.{AreWeights}
 use Rattle.weights.specs.Acting.{may_act}
-use Rattle.weights.proofs.Choice.{vacant}
 use Rattle.weights.proofs.Weigh.{weights_le}
 use Rattle.decision.specs.Conditions.{permission_holds}
 use Rattle.decision.specs.Groups.{entry_count, entry_role, sum_of, roles_of, some_weightless, group_refusal}
@@ -28,8 +27,13 @@ record Known (b g : List ℕ) : Type 0 where
   few : length g ≤ 12
   low : (i : ℕ) → i < entry_count g → entry_role g i < 8
 
-known : {b g : List ℕ} → refusal_of b ≡ 0 → members_of b g ≡ 0 → Known b g
-known {b} {g} ok none =
+-- the base of who may act is the base
+moved : (g : List ℕ) {a b : List ℕ} {n : ℕ} → a ≡ b → n ≡ members_of a g → n ≡ members_of b g
+moved g same is = is ∙ ap (λ b. members_of b g) same
+
+known : {a b g : List ℕ} → refusal_of b ≡ 0 → a ≡ b → 0 ≡ members_of a g → Known b g
+known {b = b} {g = g} ok same passed =
+    let none = sym (moved g same passed) in
     let m : Members (user_count b) (role_count b) (may_act b) g = members_of_lem _ _ _ g none in
     record {
       none = none;
@@ -77,51 +81,49 @@ module _ (rules b : List ℕ) (at : Context) (p : ℕ) (g : List ℕ) where
 
 pub returns-in_err-members_refusal : goal.returns-in_err-members_refusal
 returns-in_err-members_refusal c =
-    handed_on _ _ c.from_residual.ensures.1 ∙ by_members _ _ _ _ _ c.in_err-members_refusal.ensures (refusal_pos _)
+    handed_on _ _ c.from_residual.ensures.1
+    ∙ by_members _ _ _ _ _ (moved c.args.group.now c.by.ensures c.in_err-members_refusal.ensures) (refusal_pos _)
 
 pub role_weights-w-requires : goal.role_weights-w-requires
-role_weights-w-requires c = lt_of_lt_of_le c.requires.1 (permissions_le _ (accepted _ c.requires.0).frame)
+role_weights-w-requires c = lt_of_lt_of_le c.requires.0 (permissions_le _ (accepted _ c.part-k.ensures.accepted).frame)
 
 pub some_weightless-requires : goal.some_weightless-requires
-some_weightless-requires c = (known c.requires.0 (sym c.in_ok-members_refusal.ensures)).low
+some_weightless-requires c = (known c.part-k.ensures.accepted c.by.ensures c.in_ok-members_refusal.ensures).low
 
 pub returns-then-some_weightless : goal.returns-then-some_weightless
 returns-then-some_weightless c =
-    let k = known c.requires.0 (sym c.in_ok-members_refusal.ensures) in
-    let are = c.role_weights-w.ensures _ _ _ c.requires.0 c.choose-chosen.ensures c.requires.2.juniors in
+    let k = known c.part-k.ensures.accepted c.by.ensures c.in_ok-members_refusal.ensures in
+    let are = c.role_weights-w.ensures _ _ _ c.part-k.ensures.accepted c.choose.ensures c.requires.1.juniors in
     by_16 _ _ _ _ _ k (weightless_is _ _ _ _ _ k are c.if-some_weightless.ensures)
 
-pub part-k-requires : goal.part-k-requires
-part-k-requires c = (accepted _ c.requires.0).frame
-
 pub entry_count-requires : goal.entry_count-requires
-entry_count-requires c = (known c.requires.0 (sym c.in_ok-members_refusal.ensures)).few
+entry_count-requires c = (known c.part-k.ensures.accepted c.by.ensures c.in_ok-members_refusal.ensures).few
 
 pub sum_of-requires : goal.sum_of-requires
 sum_of-requires c =
-    let k = known c.requires.0 (sym c.in_ok-members_refusal.ensures) in
-    let are = c.role_weights-w.ensures _ _ _ c.requires.0 c.choose-chosen.ensures c.requires.2.juniors in
-    (k.few, k.low, weights_le _ c.requires.0 _ _ _ _ are)
+    let k = known c.part-k.ensures.accepted c.by.ensures c.in_ok-members_refusal.ensures in
+    let are = c.role_weights-w.ensures _ _ _ c.part-k.ensures.accepted c.choose.ensures c.requires.1.juniors in
+    (k.few, k.low, weights_le _ c.part-k.ensures.accepted _ _ _ _ are)
 
 pub roles_of-requires : goal.roles_of-requires
-roles_of-requires c = (known c.requires.0 (sym c.in_ok-members_refusal.ensures)).low
+roles_of-requires c = (known c.part-k.ensures.accepted c.by.ensures c.in_ok-members_refusal.ensures).low
 
 pub permission_holds-requires : goal.permission_holds-requires
 permission_holds-requires c =
-    rw c.part-k.ensures (λ i l. (clause_fine _ _ _ i (accepted _ c.requires.0).clauses l).at_most)
+    rw c.part-k.ensures.table (λ i l. (clause_fine _ _ _ i (accepted _ c.part-k.ensures.accepted).clauses l).at_most)
 
 pub returns-then-permission_holds : goal.returns-then-permission_holds
 returns-then-permission_holds c =
-    let k = known c.requires.0 (sym c.in_ok-members_refusal.ensures) in
-    let are = c.role_weights-w.ensures _ _ _ c.requires.0 c.choose-chosen.ensures c.requires.2.juniors in
+    let k = known c.part-k.ensures.accepted c.by.ensures c.in_ok-members_refusal.ensures in
+    let are = c.role_weights-w.ensures _ _ _ c.part-k.ensures.accepted c.choose.ensures c.requires.1.juniors in
     by_0 _ _ _ _ _ k (weightless_is _ _ _ _ _ k are c.if-some_weightless.ensures)
-    (holds_is _ _ _ _ _ k are c.if-permission_holds.ensures c.part-k.ensures c.entry_count.ensures
+    (holds_is _ _ _ _ _ k are c.if-permission_holds.ensures c.part-k.ensures.table c.entry_count.ensures
     c.sum_of.ensures.0 c.roles_of.ensures)
 
 pub returns : goal.returns
 returns c =
-    let k = known c.requires.0 (sym c.in_ok-members_refusal.ensures) in
-    let are = c.role_weights-w.ensures _ _ _ c.requires.0 c.choose-chosen.ensures c.requires.2.juniors in
+    let k = known c.part-k.ensures.accepted c.by.ensures c.in_ok-members_refusal.ensures in
+    let are = c.role_weights-w.ensures _ _ _ c.part-k.ensures.accepted c.choose.ensures c.requires.1.juniors in
     by_17 _ _ _ _ _ k (weightless_is _ _ _ _ _ k are c.if-some_weightless.ensures)
-    (holds_is _ _ _ _ _ k are c.if-permission_holds.ensures c.part-k.ensures c.entry_count.ensures
+    (holds_is _ _ _ _ _ k are c.if-permission_holds.ensures c.part-k.ensures.table c.entry_count.ensures
     c.sum_of.ensures.0 c.roles_of.ensures)

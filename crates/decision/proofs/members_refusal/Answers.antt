@@ -2,8 +2,6 @@
 use Rattle.std.proofs.Common.{ℕ, Bool, true, false, List, ◌≡◌}
 use mathlib.Core.Path.{sym, ◌∙◌}
 use Rattle.reader.specs.Tables.{role_count, user_count}
-use Rattle.reader.proofs.Frame.{framed}
-use Rattle.reader.proofs.Accepted.{accepted}
 use Rattle.weights.specs.Acting.{may_act}
 use Rattle.decision.specs.Groups.{length_refused, some_unknown, some_twice, some_ineligible, members_refusal}
 use Rattle.decision.specs.Decision.{members_of}
@@ -39,33 +37,27 @@ module _ (b g : List ℕ) where
       by_none once e = rw (whole, known, once, e)
 
 pub returns-then-length_refused : goal.returns-then-length_refused
-returns-then-length_refused c = by_12 c.args.base.now c.args.group.now (sym c.if-length_refused.ensures)
-
-pub role_count-roles-requires : goal.role_count-roles-requires
-role_count-roles-requires c = (framed _ (accepted _ c.requires.0).frame).long
-
-pub user_count-requires : goal.user_count-requires
-user_count-requires c = (accepted _ c.requires.0).frame
+returns-then-length_refused c = by_12 c.args.acting.now c.args.group.now (sym c.if-length_refused.ensures)
 
 pub returns-then-some_unknown : goal.returns-then-some_unknown
 returns-then-some_unknown c =
-    by_13 c.args.base.now c.args.group.now (sym c.if-length_refused.ensures)
-    (unknown_is _ _ c.if-some_unknown.ensures c.user_count.ensures c.role_count-roles.ensures)
+    by_13 c.args.acting.now c.args.group.now (sym c.if-length_refused.ensures)
+    (unknown_is _ _ c.if-some_unknown.ensures c.user_count.ensures c.role_count.ensures.0)
 
 pub returns-then-some_twice : goal.returns-then-some_twice
 returns-then-some_twice c =
-    by_14 c.args.base.now c.args.group.now (sym c.if-length_refused.ensures)
-    (unknown_is _ _ c.if-some_unknown.ensures c.user_count.ensures c.role_count-roles.ensures)
+    by_14 c.args.acting.now c.args.group.now (sym c.if-length_refused.ensures)
+    (unknown_is _ _ c.if-some_unknown.ensures c.user_count.ensures c.role_count.ensures.0)
     (sym c.if-some_twice.ensures)
 
 pub returns-then-some_ineligible : goal.returns-then-some_ineligible
 returns-then-some_ineligible c =
-    by_15 c.args.base.now c.args.group.now (sym c.if-length_refused.ensures)
-    (unknown_is _ _ c.if-some_unknown.ensures c.user_count.ensures c.role_count-roles.ensures)
+    by_15 c.args.acting.now c.args.group.now (sym c.if-length_refused.ensures)
+    (unknown_is _ _ c.if-some_unknown.ensures c.user_count.ensures c.role_count.ensures.0)
     (sym c.if-some_twice.ensures) (sym c.if-some_ineligible.ensures)
 
 pub returns : goal.returns
 returns c =
-    by_none c.args.base.now c.args.group.now (sym c.if-length_refused.ensures)
-    (unknown_is _ _ c.if-some_unknown.ensures c.user_count.ensures c.role_count-roles.ensures)
+    by_none c.args.acting.now c.args.group.now (sym c.if-length_refused.ensures)
+    (unknown_is _ _ c.if-some_unknown.ensures c.user_count.ensures c.role_count.ensures.0)
     (sym c.if-some_twice.ensures) (sym c.if-some_ineligible.ensures)

@@ -9,5 +9,5 @@ use Rattle.decision.proofs.groups.some_ineligible.Goals as goal
 pub returns : goal.returns
 unfolding some_ineligible
 returns c =
-    any_of_range (λ i. not (may_act c.args.base.now (entry_user c.args.g.now i) (entry_role c.args.g.now i)))
+    any_of_range (λ i. not (may_act c.args.acting.now (entry_user c.args.g.now i) (entry_role c.args.g.now i)))
     (length c.args.g.now / 2) _ _ _ (cc) (λ x b q k. search (rules, tests)) c.any.ensures.ran
