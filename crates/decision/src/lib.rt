@@ -6,7 +6,7 @@ ghost use Rattle.std.specs.Prelude.{◌≡◌, ◌<◌};
 ghost use Rattle.reader.specs.Tables.{permission_count};
 ghost use Rattle.reader.specs.Refusals.{number_of};
 ghost use Rattle.weights.specs.Setting.{rules_of, FixedBy};
-ghost use Rattle.decision.specs.Decision.{members_of, group_decision, asking, decision_of, decision_lent};
+ghost use Rattle.decision.specs.Decision.{group_decision, asking, decision_of, decision_lent};
 
 use reader::{Base, Refusal, Table};
 use weights::acting::Acting;
@@ -14,8 +14,10 @@ use weights::{Context, Fixed};
 
 pub mod conditions;
 pub mod groups;
+pub mod members;
 
 use conditions::Attributes;
+use members::Members;
 
 // Entry point: whether the group is granted; else the first refusal of 1 to 17 that applies.
 pub fn decide(base: &[u8], permission: u32, at: Context, group: &[u8]) -> Result<(), Refusal>
@@ -56,25 +58,6 @@ fn asking_refusal(base: &Base<'_>, permission: u32, at: Context) -> Result<(), R
     Ok(())
 }
 
-// Inner: refusals 12 to 15, by who may act in a role.
-pub fn members_refusal(acting: &Acting<'_>, group: &[u8]) -> Result<(), Refusal>
-    ensures { number_of result ≡ members_of acting.now group.now }
-{
-    if groups::length_refused(group) {
-        return Err(Refusal::GroupLength);
-    }
-    if groups::some_unknown(group, acting.user_count(), acting.role_count()) {
-        return Err(Refusal::Unknown);
-    }
-    if groups::some_twice(group) {
-        return Err(Refusal::Twice);
-    }
-    if groups::some_ineligible(group, acting) {
-        return Err(Refusal::Ineligible);
-    }
-    Ok(())
-}
-
 // Inner: refusals 12 to 17 for an accepted base, a permission that is there and a setting of that base, by its rules.
 pub fn decide_checked(
     base: &Base<'_>,
@@ -85,16 +68,16 @@ pub fn decide_checked(
     requires { (permission < permission_count base.now) × FixedBy base.now s }
     ensures { number_of result ≡ group_decision (rules_of s) base.now s.at permission group.now }
 {
-    members_refusal(&Acting::by(base, s.juniors), group)?;
+    let members = Members::of(&Acting::by(base, s.juniors), group)?;
     let k = base.part(Table::Clauses);
     let w = weights::choose(base, s).role_weights(s.juniors, permission);
-    if groups::some_weightless(group, w) {
+    if members.some_weightless(w) {
         return Err(Refusal::Weightless);
     }
     let attributes = Attributes {
-        entries: groups::entry_count(group),
-        sum: groups::sum_of(group, w),
-        roles: groups::roles_of(group),
+        entries: members.entry_count(),
+        sum: members.sum_of(w),
+        roles: members.roles_of(),
     };
     if conditions::permission_holds(k, permission, attributes) {
         return Ok(());

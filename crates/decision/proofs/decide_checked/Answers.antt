@@ -11,7 +11,7 @@ use Rattle.reader.proofs.Accepted.{accepted, clause_fine}
 use Rattle.reader.proofs.Results.{refusal_pos, handed_on}
 use Rattle.weights.specs.declared.Context.{Context}
 use Rattle.weights.specs.Weights.{weight}
-use Rattle.weights.specs.Setting.{AreWeights}
+use Rattle.weights.specs.Setting.{AreWeights, rules_of}
 use Rattle.weights.specs.Acting.{may_act}
 use Rattle.weights.proofs.Weigh.{weights_le}
 use Rattle.decision.specs.Conditions.{permission_holds}
@@ -31,14 +31,14 @@ record Known (b g : List ℕ) : Type 0 where
 moved : (g : List ℕ) {a b : List ℕ} {n : ℕ} → a ≡ b → n ≡ members_of a g → n ≡ members_of b g
 moved g same is = is ∙ ap (λ b. members_of b g) same
 
-known : {a b g : List ℕ} → refusal_of b ≡ 0 → a ≡ b → 0 ≡ members_of a g → Known b g
-known {b = b} {g = g} ok same passed =
-    let none = sym (moved g same passed) in
-    let m : Members (user_count b) (role_count b) (may_act b) g = members_of_lem _ _ _ g none in
+known : {a b m g : List ℕ} → refusal_of b ≡ 0 → a ≡ b → m ≡ g → 0 ≡ members_of a g → Known b m
+known {b = b} {m = m} {g = g} ok same is passed =
+    let none = ap (members_of b) is ∙ sym (moved g same passed) in
+    let s : Members (user_count b) (role_count b) (may_act b) m = members_of_lem _ _ _ m none in
     record {
       none = none;
-      few = short_enough g m.whole;
-      low = role_below _ _ g m.known (roles_range _ (accepted _ ok).frame).1;
+      few = short_enough m s.whole;
+      low = role_below _ _ m s.known (roles_range _ (accepted _ ok).frame).1;
     }
 
 module _ (rules b : List ℕ) (at : Context) (p : ℕ) (g : List ℕ) where
@@ -79,34 +79,25 @@ module _ (rules b : List ℕ) (at : Context) (p : ℕ) (g : List ℕ) where
           let weighed = sum_weights _ _ _ _ _ g are k.low in
           sym (is ∙ condition_same rules b at p g _ _ _ _ table count (total ∙ weighed) roles)
 
-pub returns-in_err-members_refusal : goal.returns-in_err-members_refusal
-returns-in_err-members_refusal c =
+pub returns-in_err-members : goal.returns-in_err-members
+returns-in_err-members c =
     handed_on _ _ c.from_residual.ensures.1
-    ∙ by_members _ _ _ _ _ (moved c.args.group.now c.by.ensures c.in_err-members_refusal.ensures) (refusal_pos _)
+    ∙ by_members _ _ _ _ _ (moved c.args.group.now c.by.ensures c.in_err-members.ensures.number) (refusal_pos _)
 
 pub role_weights-w-requires : goal.role_weights-w-requires
 role_weights-w-requires c = lt_of_lt_of_le c.requires.0 (permissions_le _ (accepted _ c.part-k.ensures.accepted).frame)
 
-pub some_weightless-requires : goal.some_weightless-requires
-some_weightless-requires c = (known c.part-k.ensures.accepted c.by.ensures c.in_ok-members_refusal.ensures).low
-
 pub returns-then-some_weightless : goal.returns-then-some_weightless
 returns-then-some_weightless c =
-    let k = known c.part-k.ensures.accepted c.by.ensures c.in_ok-members_refusal.ensures in
+    let k = known c.part-k.ensures.accepted c.by.ensures c.in_ok-members.ensures.same c.in_ok-members.ensures.number in
     let are = c.role_weights-w.ensures _ _ _ c.part-k.ensures.accepted c.choose.ensures c.requires.1.juniors in
     by_16 _ _ _ _ _ k (weightless_is _ _ _ _ _ k are c.if-some_weightless.ensures)
-
-pub entry_count-requires : goal.entry_count-requires
-entry_count-requires c = (known c.part-k.ensures.accepted c.by.ensures c.in_ok-members_refusal.ensures).few
+    ∙ ap (group_decision (rules_of c.args.s) c.args.base.now c.args.s.at c.args.permission) c.in_ok-members.ensures.same
 
 pub sum_of-requires : goal.sum_of-requires
 sum_of-requires c =
-    let k = known c.part-k.ensures.accepted c.by.ensures c.in_ok-members_refusal.ensures in
-    let are = c.role_weights-w.ensures _ _ _ c.part-k.ensures.accepted c.choose.ensures c.requires.1.juniors in
-    (k.few, k.low, weights_le _ c.part-k.ensures.accepted _ _ _ _ are)
-
-pub roles_of-requires : goal.roles_of-requires
-roles_of-requires c = (known c.part-k.ensures.accepted c.by.ensures c.in_ok-members_refusal.ensures).low
+    let ok = c.part-k.ensures.accepted in
+    weights_le _ ok _ _ _ _ (c.role_weights-w.ensures _ _ _ ok c.choose.ensures c.requires.1.juniors)
 
 pub permission_holds-requires : goal.permission_holds-requires
 permission_holds-requires c =
@@ -114,16 +105,18 @@ permission_holds-requires c =
 
 pub returns-then-permission_holds : goal.returns-then-permission_holds
 returns-then-permission_holds c =
-    let k = known c.part-k.ensures.accepted c.by.ensures c.in_ok-members_refusal.ensures in
+    let k = known c.part-k.ensures.accepted c.by.ensures c.in_ok-members.ensures.same c.in_ok-members.ensures.number in
     let are = c.role_weights-w.ensures _ _ _ c.part-k.ensures.accepted c.choose.ensures c.requires.1.juniors in
     by_0 _ _ _ _ _ k (weightless_is _ _ _ _ _ k are c.if-some_weightless.ensures)
     (holds_is _ _ _ _ _ k are c.if-permission_holds.ensures c.part-k.ensures.table c.entry_count.ensures
     c.sum_of.ensures.0 c.roles_of.ensures)
+    ∙ ap (group_decision (rules_of c.args.s) c.args.base.now c.args.s.at c.args.permission) c.in_ok-members.ensures.same
 
 pub returns : goal.returns
 returns c =
-    let k = known c.part-k.ensures.accepted c.by.ensures c.in_ok-members_refusal.ensures in
+    let k = known c.part-k.ensures.accepted c.by.ensures c.in_ok-members.ensures.same c.in_ok-members.ensures.number in
     let are = c.role_weights-w.ensures _ _ _ c.part-k.ensures.accepted c.choose.ensures c.requires.1.juniors in
     by_17 _ _ _ _ _ k (weightless_is _ _ _ _ _ k are c.if-some_weightless.ensures)
     (holds_is _ _ _ _ _ k are c.if-permission_holds.ensures c.part-k.ensures.table c.entry_count.ensures
     c.sum_of.ensures.0 c.roles_of.ensures)
+    ∙ ap (group_decision (rules_of c.args.s) c.args.base.now c.args.s.at c.args.permission) c.in_ok-members.ensures.same

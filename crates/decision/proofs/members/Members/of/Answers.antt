@@ -1,12 +1,12 @@
--- `members_refusal` meets its contract: a chain of four refusals.
+-- A chain of four refusals; a group that passes them has at most six entries, in roles below 8.
 use Rattle.std.proofs.Common.{ℕ, Bool, true, false, List, ◌≡◌}
 use mathlib.Core.Path.{sym, ◌∙◌}
 use Rattle.reader.specs.Tables.{role_count, user_count}
 use Rattle.weights.specs.Acting.{may_act}
 use Rattle.decision.specs.Groups.{length_refused, some_unknown, some_twice, some_ineligible, members_refusal}
 use Rattle.decision.specs.Decision.{members_of}
-use Rattle.decision.proofs.Granting.{unknown_same}
-use Rattle.decision.proofs.members_refusal.Goals as goal
+use Rattle.decision.proofs.Granting.{unknown_same, short_enough, role_below}
+use Rattle.decision.proofs.members.Members.of.Goals as goal
 
 -- where each test of the chain, up to one that is met, fails
 module _ (b g : List ℕ) where
@@ -36,28 +36,35 @@ module _ (b g : List ℕ) where
       unfolding members_refusal
       by_none once e = rw (whole, known, once, e)
 
-pub returns-then-length_refused : goal.returns-then-length_refused
-returns-then-length_refused c = by_12 c.args.acting.now c.args.group.now (sym c.if-length_refused.ensures)
+pub returns-then-length_refused-clause-number : goal.returns-then-length_refused-clause-number
+returns-then-length_refused-clause-number c = by_12 c.args.acting.now c.args.group.now (sym c.if-length_refused.ensures)
 
-pub returns-then-some_unknown : goal.returns-then-some_unknown
-returns-then-some_unknown c =
+pub returns-then-some_unknown-clause-number : goal.returns-then-some_unknown-clause-number
+returns-then-some_unknown-clause-number c =
     by_13 c.args.acting.now c.args.group.now (sym c.if-length_refused.ensures)
     (unknown_is _ _ c.if-some_unknown.ensures c.user_count.ensures c.role_count.ensures.0)
 
-pub returns-then-some_twice : goal.returns-then-some_twice
-returns-then-some_twice c =
+pub returns-then-some_twice-clause-number : goal.returns-then-some_twice-clause-number
+returns-then-some_twice-clause-number c =
     by_14 c.args.acting.now c.args.group.now (sym c.if-length_refused.ensures)
     (unknown_is _ _ c.if-some_unknown.ensures c.user_count.ensures c.role_count.ensures.0)
     (sym c.if-some_twice.ensures)
 
-pub returns-then-some_ineligible : goal.returns-then-some_ineligible
-returns-then-some_ineligible c =
+pub returns-then-some_ineligible-clause-number : goal.returns-then-some_ineligible-clause-number
+returns-then-some_ineligible-clause-number c =
     by_15 c.args.acting.now c.args.group.now (sym c.if-length_refused.ensures)
     (unknown_is _ _ c.if-some_unknown.ensures c.user_count.ensures c.role_count.ensures.0)
     (sym c.if-some_twice.ensures) (sym c.if-some_ineligible.ensures)
 
-pub returns : goal.returns
-returns c =
+pub invariant_of-result : goal.invariant_of-result
+invariant_of-result c =
+    record {
+      few = short_enough _ (sym c.if-length_refused.ensures);
+      low = role_below _ _ _ (sym c.if-some_unknown.ensures) c.role_count.ensures.1;
+    }
+
+pub returns-clause-number : goal.returns-clause-number
+returns-clause-number c =
     by_none c.args.acting.now c.args.group.now (sym c.if-length_refused.ensures)
     (unknown_is _ _ c.if-some_unknown.ensures c.user_count.ensures c.role_count.ensures.0)
     (sym c.if-some_twice.ensures) (sym c.if-some_ineligible.ensures)

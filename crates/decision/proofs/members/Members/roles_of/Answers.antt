@@ -12,7 +12,7 @@ use Rattle.folds.specs.Sets.{in_set}
 use Rattle.folds.proofs.Sets.{in_none, in_added, same_set, set_lt, in_set_lem}
 use Rattle.decision.specs.Groups.{entry_role, acted_in, roles_of}
 use Rattle.decision.proofs.Chains.{fold_more}
-use Rattle.decision.proofs.groups.roles_of.Goals as goal
+use Rattle.decision.proofs.members.Members.roles_of.Goals as goal
 
 module _ (g : List ℕ) where
   abbrev with_role : ℕ → ℕ → ℕ
@@ -44,6 +44,7 @@ module _ (g : List ℕ) where
 
 pub returns : goal.returns
 returns c =
-    fold_from_yields_List _ (with_role c.args.g.now) _ _ c.fold.ensures.ran
-    (YieldsList-from_range 0 (length c.args.g.now / 2) (length c.args.g.now / 2) (cc) (omega arith))
-    (λ a x b q k. search rules) ∙ all c.args.g.now c.requires
+    let g = c.self.inside.group.now in
+    fold_from_yields_List _ (with_role g) _ _ c.fold.ensures.ran
+    (YieldsList-from_range 0 (length g / 2) (length g / 2) (cc) (omega arith))
+    (λ a x b q k. search rules) ∙ all g c.self.invariant.low ∙ ap roles_of c.self.view_is
