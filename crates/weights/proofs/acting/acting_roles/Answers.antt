@@ -10,7 +10,7 @@ use Rattle.reader.proofs.Frame.{framed, roles_range}
 use Rattle.reader.proofs.Accepted.{accepted_frame}
 use Rattle.weights.specs.Acting.{may_act}
 use Rattle.weights.specs.Setting.{Juniors}
-use Rattle.weights.proofs.Folding.{fold_callable, fold_gathers}
+use Rattle.folds.proofs.Folds.{fold_callable, fold_gathers}
 use Rattle.weights.proofs.MayAct.{gives, acting_set}
 use Rattle.weights.proofs.Steps.{in_with}
 use Rattle.weights.proofs.acting.acting_roles.Goals as goal
