@@ -1,4 +1,3 @@
 pub mod Agree
 pub mod Granting
 pub mod Heads
-pub mod Chains

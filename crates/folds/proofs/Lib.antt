@@ -7,3 +7,7 @@ pub mod Gathers
 pub mod Lowest
 pub mod Lists
 pub mod Chains
+pub mod Folds
+pub mod Arrays
+pub mod Changing
+pub mod Parts

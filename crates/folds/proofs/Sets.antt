@@ -215,6 +215,14 @@ in_below p n r =
     (λ e. rw e (in_set_high n (set_below n p) r (set_lt p n) (ltb-false r n e)))
     (met_or_not (ltb r n))
 
+-- the same, where p holds of no number from n on
+pub in_whole : (p : ℕ → Bool) (n : ℕ) → ((k : ℕ) → n ≤ k → p k ≡ false) → (r : ℕ) → in_set (set_below n p) r ≡ p r
+in_whole p n past r =
+    ⊎_elim
+    (λ e. in_below p n r ∙ rw e)
+    (λ e. in_below p n r ∙ rw e (sym (past r (ltb-false r n e))))
+    (met_or_not (ltb r n))
+
 -- two sets of numbers below n have a common member exactly where their meet isn't empty
 pub meet_some : (n a b : ℕ) → a < 2 ^ n → b < 2 ^ n →
     not (eqb (bit_and a b) 0) ≡ any_below n (λ r. in_set a r && in_set b r)

@@ -1,5 +1,4 @@
 pub mod Apart
-pub mod Chains
 pub mod Conditions
 pub mod Loops
 pub mod Made

@@ -21,7 +21,7 @@ use Rattle.masks.specs.Sets.{SetsFor}
 use Rattle.masks.specs.Rows.{Joined, Rows}
 use Rattle.masks.specs.Masks.{Ready, Masks}
 use Rattle.std.proofs.lemmas.List.{length-take}
-use Rattle.masks.proofs.Chains.{before_end, length_end}
+use Rattle.folds.proofs.Parts.{before_end, length_end}
 use Rattle.masks.proofs.Narrowing.{narrowed_same}
 use Rattle.masks.proofs.RowMasks.{joined_front}
 use Rattle.masks.proofs.Telling.{kept, tells}

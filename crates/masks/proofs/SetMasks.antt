@@ -16,7 +16,10 @@ use lib.Pow.{pow_mono}
 use Rattle.folds.specs.Below.{all_below}
 use Rattle.folds.specs.Sets.{in_set}
 use Rattle.folds.proofs.Bools.{met_or_not, same_test, and_left, and_right, and_both}
+use Rattle.folds.proofs.Changing.{Changed}
+use Rattle.folds.proofs.Folds.{fold_steps}
 use Rattle.folds.proofs.Numbers.{count_le}
+use Rattle.folds.proofs.Parts.{before_end, length_end}
 use Rattle.folds.proofs.Tests.{all_each, all_at, all_same}
 use Rattle.folds.proofs.Sets.{in_and, in_none, in_added, in_set_high}
 use Rattle.decision.specs.Conditions.{role_num}
@@ -26,7 +29,6 @@ use Rattle.std.proofs.lemmas.List.{length-take, get_or-take, get_or-drop}
 use Rattle.std.proofs.Common.{length-drop}
 use Rattle.masks.specs.Sets.{RoleCounts, Without, spared, spared_from, role_fits, WithinReach}
 use Rattle.masks.specs.Sets.{Doubled, SetsMarked, NumbersFit, SetsFor}
-use Rattle.masks.proofs.Chains.{fold_steps, Changed, before_end, length_end}
 
 -- clauses that are left where a role is in `start`, or else those that don't ask for it
 chosen : (s z o : Bool) (own mask b : ℕ) → o ≡ in_set own b

@@ -19,10 +19,11 @@ use Rattle.std.proofs.lemmas.Slice.{between_to_end}
 use Rattle.std.proofs.lemmas.List.{length-map, length-take, get_or-map, get_or-take, get_or-drop}
 use Rattle.folds.specs.Sets.{in_set}
 use Rattle.folds.proofs.Bools.{met_or_not}
+use Rattle.folds.proofs.Changing.{Changed}
+use Rattle.folds.proofs.Parts.{before_end, from_end, before_start, from_start, length_end, length_start}
 use Rattle.folds.proofs.Sets.{in_and}
 use Rattle.weights.specs.Operators.{RangeOf}
 use Rattle.masks.specs.Clauses.{Cut, apart_from, within, stands_to, lacks, Struck}
-use Rattle.masks.proofs.Chains.{Changed, before_end, from_end, before_start, from_start, length_end, length_start}
 
 module _ {count others : ℕ} where
   -- where each test holds nothing is struck out

@@ -9,5 +9,4 @@ pub mod Turned
 pub mod Writing
 pub mod Bytes
 pub mod Rows
-pub mod Chains
 mod Reading

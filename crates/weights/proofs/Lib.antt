@@ -1,6 +1,5 @@
 pub mod Agree
 pub mod Chains
-pub mod Folding
 pub mod Foremost
 pub mod Choice
 pub mod Resolving

@@ -7,14 +7,14 @@ use mathlib.Core.Logic.{◌⊎◌, inl, inr, ⊎_elim, ◌↔◌}
 use mathlib.Core.List.{List}
 use native.Mathlib.Nat.{lt_of_lt_of_le}
 use native.Mathlib.Omega.{arith}
-use borrow.Author.Tests.{ltb-true, ltb-false, lt-ltb, eqb-true, eq-eqb}
+use borrow.Author.Tests.{ltb-true, lt-ltb, eqb-true, eq-eqb}
 use lib.Dec.{ltb, eqb}
 use lib.ListN.{get_or}
 use Rattle.folds.specs.Below.{any_below}
 use Rattle.folds.specs.Sets.{in_set, set_below}
-use Rattle.folds.proofs.Bools.{and_left, and_right, and_both, or_either, met_or_not, never_met, same_test}
+use Rattle.folds.proofs.Bools.{and_left, and_right, and_both, or_either, never_met, same_test}
 use Rattle.folds.proofs.Tests.{any_found, any_some}
-use Rattle.folds.proofs.Sets.{in_below, same_members}
+use Rattle.folds.proofs.Sets.{in_whole, same_members}
 use Rattle.reader.specs.Tables.{hierarchy, users, role_count, user_count, table_of, record_count}
 use Rattle.reader.specs.Fields.{parameter}
 use Rattle.reader.specs.Codes.{code_divides, held_by, holds}
@@ -181,10 +181,7 @@ module _ (b : List ℕ) (ok : refusal_of b ≡ 0) where
 
   -- what is in the set of the roles in which the user may act
   pub acting_in : (u r : ℕ) → in_set (set_below 8 (may_act b u)) r ≡ may_act b u r
-  acting_in u r = ⊎_elim
-      (λ t. in_below (may_act b u) 8 r ∙ rw t)
-      (λ t. in_below (may_act b u) 8 r ∙ rw t (sym (acting_past u r (ltb-false r 8 t))))
-      (met_or_not (ltb r 8))
+  acting_in u r = in_whole (may_act b u) 8 (acting_past u) r
 
   -- so a set that has them, and no other number, is that set
   pub acting_set : (juniors : List ℕ) → Juniors (table_of b hierarchy) juniors → (u set : ℕ) →

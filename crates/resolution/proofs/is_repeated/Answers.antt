@@ -2,7 +2,7 @@
 use Rattle.std.proofs.Common.{◌∙◌, get_or, arith}
 use lib.Dec.{eqb}
 use Rattle.resolution.specs.Resolution.{repeated}
-use Rattle.resolution.proofs.Chains.{any_of_front}
+use Rattle.folds.proofs.Chains.{any_of_front}
 use Rattle.resolution.proofs.is_repeated.Goals as goal
 
 pub returns : goal.returns

@@ -1,26 +1,17 @@
 -- `entries_at_or_above` meets its contract: of the numbers of at most 6 entries those in such roles are counted.
-use Rattle.std.proofs.Common.{ℕ, Bool, List, ◌≡◌, ◌≤◌, ◌/◌, sym, ◌∙◌, length, rules, tests, arith}
-use mathlib.Core.Bool.{cond}
-use Rattle.std.specs.List.{filter, range_with_len}
+use Rattle.std.proofs.Common.{ℕ, Bool, List, ◌≡◌, ◌≤◌, ◌/◌, ◌∙◌, length, rules, tests, arith}
 use Rattle.std.proofs.lemmas.Iterator.{YieldsList-from_range}
 use Rattle.std.proofs.lemmas.Iterator.Consumers.{YieldsList-from_filter, count_from_yields_List}
-use Rattle.std.proofs.lemmas.List.Sums.{length-filter, sum-map}
 use Rattle.folds.specs.Below.{count_below}
+use Rattle.folds.proofs.Chains.{count_chain}
 use Rattle.folds.proofs.Numbers.{count_le}
 use Rattle.decision.specs.Groups.{entry_role}
-use Rattle.decision.proofs.Chains.{sum_chain}
 use Rattle.shift.specs.Counting.{at_or_above, entries_at_or_above}
 use Rattle.shift.proofs.entries_at_or_above.Goals as goal
 
 -- entry k acts in such a role
 abbrev counts : List ℕ → ℕ → List ℕ → ℕ → Bool
 counts juniors q g k = at_or_above juniors q (entry_role g k)
-
-counted : (p : ℕ → Bool) (n : ℕ) → length (filter p (range_with_len 0 n)) ≡ count_below n p
-unfolding count_below
-counted p n =
-    length-filter p (range_with_len 0 n) ∙ sym (sum-map (λ i. cond (p i) 1 0) (range_with_len 0 n))
-    ∙ sum_chain (λ i. cond (p i) 1 0) n
 
 at_most : (p : ℕ → Bool) (n : ℕ) {r : ℕ} → r ≡ count_below n p → n ≤ 6 → r ≤ 6
 at_most p n is few = let most = count_le p n in omega arith
@@ -32,5 +23,5 @@ returns c =
     (YieldsList-from_filter _ (counts c.args.juniors c.args.role c.args.group.now)
     (YieldsList-from_range 0 (length c.args.group.now / 2) (length c.args.group.now / 2) (cc) (omega arith))
     c.filter.ensures.closure (λ x r q k. search (rules, tests)))
-    ∙ counted (counts c.args.juniors c.args.role c.args.group.now) (length c.args.group.now / 2) in
+    ∙ count_chain (counts c.args.juniors c.args.role c.args.group.now) (length c.args.group.now / 2) in
     (is, at_most (counts c.args.juniors c.args.role c.args.group.now) (length c.args.group.now / 2) is (omega arith))

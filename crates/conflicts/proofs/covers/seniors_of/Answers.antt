@@ -3,7 +3,7 @@ use Rattle.std.proofs.Common.{rules, tests, arith, ◌∙◌, not-suc-le-zero}
 use borrow.Author.Tests.{lt-ltb}
 use lib.ListN.{get_or}
 use Rattle.folds.specs.Sets.{in_set}
-use Rattle.related.proofs.Chains.{gathered_from}
+use Rattle.folds.proofs.Folds.{gathered_from}
 use Rattle.conflicts.proofs.covers.seniors_of.Goals as goal
 
 pub returns : goal.returns

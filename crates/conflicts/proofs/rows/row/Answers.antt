@@ -1,7 +1,7 @@
 -- `row` meets its contract: it gathers the numbers that pass the test.
 use Rattle.std.proofs.Common.{rules, ap, arith}
 use Rattle.std.proofs.lemmas.Iterator.{serves_from_Range}
-use Rattle.related.proofs.Chains.{gathered_from}
+use Rattle.folds.proofs.Folds.{gathered_from}
 use Rattle.conflicts.proofs.rows.row.Goals as goal
 
 pub fold-requires-clause-can : goal.fold-requires-clause-can

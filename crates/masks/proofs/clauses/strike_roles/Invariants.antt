@@ -1,7 +1,7 @@
 -- Each turn strikes out of one role's mask more.
 use Rattle.std.proofs.Common.{cond, bit_and}
 use Rattle.folds.specs.Sets.{in_set}
-use Rattle.masks.proofs.Chains.{Changed}
+use Rattle.folds.proofs.Changing.{Changed}
 use Rattle.masks.proofs.clauses.strike_roles.Given as goal
 
 abbrev pub invariant-loop-r : goal.invariant-loop-r

@@ -1,6 +1,6 @@
 -- Each turn doubles one mask more.
 use Rattle.std.proofs.Common.{◌≡◌, ◌<◌, ℕ, bit_and, get_or}
-use Rattle.masks.proofs.Chains.{Changed}
+use Rattle.folds.proofs.Changing.{Changed}
 use Rattle.masks.proofs.sets.add_role.Given as goal
 
 abbrev pub invariant-loop-v : goal.invariant-loop-v

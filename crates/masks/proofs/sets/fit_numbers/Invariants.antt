@@ -1,7 +1,7 @@
 -- Each turn looks at one set more.
 use Rattle.std.proofs.Common.{get_or, bit_and, bit_or}
 use Rattle.decision.specs.Conditions.{role_num}
-use Rattle.masks.proofs.Chains.{Changed}
+use Rattle.folds.proofs.Changing.{Changed}
 use Rattle.masks.proofs.sets.fit_numbers.Given as goal
 
 abbrev pub invariant-loop-v : goal.invariant-loop-v

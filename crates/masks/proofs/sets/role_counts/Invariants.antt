@@ -1,6 +1,6 @@
 -- Each turn counts the roles of one set more.
 use Rattle.decision.specs.Conditions.{role_num}
-use Rattle.masks.proofs.Chains.{Changed}
+use Rattle.folds.proofs.Changing.{Changed}
 use Rattle.masks.proofs.sets.role_counts.Given as goal
 
 abbrev pub invariant-loop-v : goal.invariant-loop-v

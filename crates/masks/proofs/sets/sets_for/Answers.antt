@@ -1,7 +1,7 @@
 use Rattle.std.proofs.Common.{not, eqb, rules, tests}
 use Rattle.std.proofs.lemmas.Iterator.{YieldsList-from_slice}
 use Rattle.std.proofs.lemmas.Iterator.Search.{any_from_yields_List}
-use Rattle.masks.proofs.Chains.{none_other}
+use Rattle.folds.proofs.Chains.{none_other}
 use Rattle.masks.proofs.SetMasks.{sets_fitted, sets_plain}
 use Rattle.masks.proofs.sets.sets_for.Goals as goal
 

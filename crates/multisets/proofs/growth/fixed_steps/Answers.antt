@@ -2,7 +2,7 @@
 use Rattle.std.proofs.Common.{ℕ, suc, ◌+◌, ◌-◌, ◌≤◌, ◌<◌, ◌≡◌, rules, tests, arith}
 use Rattle.multisets.specs.Ranks.{starts}
 use Rattle.multisets.proofs.Rows.{starts_more}
-use Rattle.multisets.proofs.Chains.{made_each}
+use Rattle.folds.proofs.Arrays.{made_each}
 use Rattle.multisets.proofs.growth.fixed_steps.Goals as goal
 
 -- a level has no fewer multisets than the one before

@@ -1,6 +1,6 @@
 -- Each number is made by itself: 1 for a role below r, else 0.
 use Rattle.std.proofs.Common.{ℕ, ◌≤◌, ◌<◌, ◌≡◌, rules, tests}
-use Rattle.multisets.proofs.Chains.{made_each}
+use Rattle.folds.proofs.Arrays.{made_each}
 use Rattle.multisets.proofs.growth.kept_steps.Goals as goal
 
 -- the number of role q

@@ -6,7 +6,7 @@ use Rattle.std.proofs.lemmas.Bool.{lt-leb}
 use Rattle.folds.specs.Sets.{in_set}
 use Rattle.folds.proofs.Sets.{in_none}
 use Rattle.related.specs.Slots.{related_slots}
-use Rattle.related.proofs.Chains.{gathered_from}
+use Rattle.folds.proofs.Folds.{gathered_from}
 use Rattle.related.proofs.slots.relation_row.Goals as goal
 
 pub returns-then-in_set : goal.returns-then-in_set

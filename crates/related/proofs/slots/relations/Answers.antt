@@ -2,7 +2,7 @@
 use Rattle.std.proofs.Common.{ℕ, ◌≡◌, ◌<◌, rules}
 use Rattle.folds.specs.Sets.{in_set}
 use Rattle.related.specs.Slots.{related_slots}
-use Rattle.related.proofs.Chains.{made_each}
+use Rattle.folds.proofs.Arrays.{made_each}
 use Rattle.related.proofs.slots.relations.Goals as goal
 
 pub returns : goal.returns

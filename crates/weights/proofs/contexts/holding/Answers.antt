@@ -9,7 +9,7 @@ use Rattle.folds.proofs.Tests.{any_same}
 use Rattle.folds.proofs.Sets.{in_one}
 use Rattle.reader.specs.Fields.{context_number}
 use Rattle.reader.proofs.Accepted.{context_fine}
-use Rattle.weights.proofs.Folding.{fold_callable, fold_gathers}
+use Rattle.folds.proofs.Folds.{fold_callable, fold_gathers}
 use Rattle.weights.specs.declared.Context.{Context}
 use Rattle.weights.specs.Contexts.{context_clause_holds, clause_of_holds, context_holds}
 use Rattle.weights.specs.Setting.{Holding}

@@ -3,7 +3,7 @@ use Rattle.std.proofs.Common.{◌/◌, ◌^◌, length, get_or, bit_or, eqb, rul
 use Rattle.folds.proofs.Tests.{any_same}
 use Rattle.reader.specs.Fields.{senior, junior}
 use Rattle.reader.proofs.Accepted.{hierarchy_fine}
-use Rattle.weights.proofs.Folding.{fold_callable, fold_gathers}
+use Rattle.folds.proofs.Folds.{fold_callable, fold_gathers}
 use Rattle.weights.proofs.Steps.{in_with}
 use Rattle.weights.specs.Setting.{next_junior}
 use Rattle.weights.proofs.seniority.juniors_of.Goals as goal

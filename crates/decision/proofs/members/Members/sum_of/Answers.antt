@@ -3,7 +3,7 @@ use Rattle.std.proofs.Common.{ℕ, List, ◌≤◌, ◌<◌, ◌/◌, ap, ◌∙
 use Rattle.folds.specs.Below.{sum_below}
 use Rattle.folds.proofs.Numbers.{sum_le}
 use Rattle.decision.specs.Groups.{entry_role, sum_of}
-use Rattle.decision.proofs.Chains.{sum_of_range, fits_of_range}
+use Rattle.folds.proofs.Chains.{sum_of_range, fits_of_range}
 use Rattle.decision.proofs.members.Members.sum_of.Goals as goal
 
 abbrev weight_at : List ℕ → List ℕ → ℕ → ℕ

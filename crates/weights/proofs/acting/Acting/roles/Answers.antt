@@ -8,7 +8,7 @@ use Rattle.reader.specs.Codes.{held_by}
 use Rattle.reader.specs.Rules.{refusal_of}
 use Rattle.weights.specs.Acting.{may_act}
 use Rattle.weights.specs.Setting.{Juniors}
-use Rattle.weights.proofs.Folding.{fold_callable, fold_gathers}
+use Rattle.folds.proofs.Folds.{fold_callable, fold_gathers}
 use Rattle.weights.proofs.MayAct.{gives, acting_set}
 use Rattle.weights.proofs.Steps.{in_with}
 use Rattle.weights.proofs.acting.Acting.roles.Goals as goal
