@@ -21,12 +21,12 @@ pub enum Kind {
     Holder = 3,
 }
 
-impl Kind {
-    // Inner: its number.
-    pub fn number(self) -> u8
-        ensures { result ≡ kind_number self }
-    {
-        self as u8
+// Inner: its number.
+impl From<Kind> for u8 {
+    ghost from_gives = { λ kind n. n ≡ kind_number kind };
+
+    fn from(kind: Kind) -> u8 {
+        kind as u8
     }
 }
 

@@ -50,7 +50,7 @@ impl Conflicts {
         requires { at + length (records_of self.now) ≤ length out.old }
         ensures { (result ≡ at + length (records_of self.now)) × (out.new ≡ sets out.old at (records_of self.now)) }
     {
-        let kind = self.kind.number();
+        let kind = u8::from(self.kind);
         let mut next = at;
         // By number, as the definition counts the rows: the number is written too.
         for i in 0..self.firsts {

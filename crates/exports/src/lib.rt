@@ -131,7 +131,7 @@ pub extern "C" fn release_sheet_open(base: &[u8], permission: u32, sheet: &mut [
         }
         Err(unopened) => {
             *sheet = unopened.sheet.into();
-            u32::from(unopened.refusal.number())
+            u32::from(u8::from(unopened.refusal))
         }
     }
 }
@@ -205,7 +205,7 @@ fn put(given: Result<Sheet, Refusal>, sheet: &mut [u8; 14]) -> u32
             *sheet = signed.into();
             0
         }
-        Err(unsigned) => u32::from(unsigned.number()),
+        Err(unsigned) => u32::from(u8::from(unsigned)),
     }
 }
 
@@ -215,7 +215,7 @@ fn number(given: Result<(), Refusal>) -> u32
 {
     match given {
         Ok(_) => 0,
-        Err(refusal) => u32::from(refusal.number()),
+        Err(refusal) => u32::from(u8::from(refusal)),
     }
 }
 

@@ -40,7 +40,7 @@ impl From<Result<u32, Refused>> for Answer {
         match given {
             Ok(count) => Answer { refusal: 0, count },
             Err(refused) => Answer {
-                refusal: refused.refusal.number(),
+                refusal: u8::from(refused.refusal),
                 count: refused.count,
             },
         }

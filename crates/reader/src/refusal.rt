@@ -30,12 +30,12 @@ pub enum Refusal {
     NotSigned = 23,
 }
 
-impl Refusal {
-    // Its number in the list.
-    pub fn number(self) -> u8
-        ensures { result ≡ refusal_number self }
-    {
-        self as u8
+// Its number in the list.
+impl From<Refusal> for u8 {
+    ghost from_gives = { λ r n. n ≡ refusal_number r };
+
+    fn from(refusal: Refusal) -> u8 {
+        refusal as u8
     }
 }
 

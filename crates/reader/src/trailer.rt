@@ -89,9 +89,7 @@ fn letters_bad(base: &[u8]) -> bool
     requires { 36 ≤ length base.now }
     ensures { result ≡ letters_bad base.now }
 {
-    let letters = b"LCAP";
-    let at = base.len() - 36 + 32;
-    (0..4usize).any(|i| base[at + i] != letters[i])
+    !base.ends_with(b"LCAP")
 }
 
 // The three zero bytes after R: with R as the lowest byte, the number in the four is below 256.
@@ -107,10 +105,9 @@ fn tables_bad(base: &[u8]) -> bool
     ensures { result ≡ tables_bad base.now }
 {
     let mut at: usize = 0;
-    // By number: the trailer's place of table t is read too, and each table's end is where the next has to start.
-    for t in 0..7usize {
+    // Each table's end is where the next has to start.
+    for (t, room) in ROOMS.iter().enumerate() {
         let n = table_count(base, t);
-        let room = room_of(t);
         if room.limit < n {
             return true;
         }

@@ -32,7 +32,7 @@ fn put_report(page: &mut Page<'_>, base: &[u8], at: Context)
             page.put_lines(&parts, reader::trailer::permission_count(base));
             page.put_count(b"releasable ", count as u8);
         }
-        Err(refused) => page.put_count(b"refused ", refused.refusal.number()),
+        Err(refused) => page.put_count(b"refused ", refused.refusal.into()),
     }
 }
 
@@ -43,7 +43,7 @@ fn put_listing(page: &mut Page<'_>, input: &[u8])
     ensures text { Listed input.now page.old.out.now page.new.out.now page.new.len }
 {
     if input.len() < 4 {
-        page.put_count(b"refused ", Refusal::BaseLength.number());
+        page.put_count(b"refused ", Refusal::BaseLength.into());
     } else {
         put_report(page, &input[4..], context_of(input));
     }

@@ -1,15 +1,23 @@
 -- The loop passes the tables that are in their places: `at` is where the next one has to start. What a turn finds is
 -- argued of plain values.
-use Rattle.std.proofs.Common.{ℕ, ◌+◌, ◌*◌, ◌<◌, ◌≤◌, true, false, List, ◌≡◌, sym, eqb, arith}
+use Rattle.std.proofs.Common.{ℕ, ◌+◌, ◌*◌, ◌<◌, ◌≤◌, true, false, List, ◌≡◌, sym, eqb, slice_index_or, arith, rules}
 use mathlib.Core.Bool.{not}
 use borrow.Author.Tests.{ne_eqb, eq-eqb, lt-ltb, le-ltb}
 use Rattle.folds.proofs.Tests.{any_none, any_more, any_found}
 use Rattle.folds.proofs.Numbers.{sum_none, sum_more}
 use Rattle.reader.specs.Tables.{width, limit, trailer, table_offset, table_count, table_size, table_start}
 use Rattle.reader.specs.Tables.{table_bad, tables_bad}
+use Rattle.reader.specs.declared.trailer.TheConstants.{ROOMS}
 use Rattle.reader.proofs.Frame.{records_size}
 use Rattle.reader.proofs.trailer.tables_bad.Invariants.{Turn}
 use Rattle.reader.proofs.trailer.tables_bad.Goals as goal
+
+-- a room of the table of rooms
+width_is : (t : ℕ) → t < 7 → (slice_index_or ROOMS t (record { width = 0; limit = 0 })).width ≡ width t
+width_is t there = search rules
+
+limit_is : (t : ℕ) → t < 7 → (slice_index_or ROOMS t (record { width = 0; limit = 0 })).limit ≡ limit t
+limit_is t there = search rules
 
 first : (b : List ℕ) → Turn b 0 0
 unfolding table_start
@@ -61,11 +69,13 @@ loop-t-init c = first _
 
 pub returns-then-room-n : goal.returns-then-room-n
 returns-then-room-n c =
-    over c.loop-t.invariant c.loop-t-test.true c.table_count-n.ensures.0 c.room_of-room.ensures.2 c.if-room-n.true
+    over c.loop-t.invariant c.loop-t-test.true c.table_count-n.ensures.0
+    (limit_is _ c.loop-t-test.true) c.if-room-n.true
 
 pub returns-then-table_offset-at : goal.returns-then-table_offset-at
 returns-then-table_offset-at c =
-    apart c.loop-t.invariant c.loop-t-test.true c.table_count-n.ensures.0 c.room_of-room.ensures.2
+    apart c.loop-t.invariant c.loop-t-test.true c.table_count-n.ensures.0
+    (limit_is _ c.loop-t-test.true)
     c.if-room-n.false c.table_offset.ensures.0 c.if-table_offset-at.true
 
 pub loop-t-preserved : goal.loop-t-preserved
@@ -73,8 +83,8 @@ loop-t-preserved c =
     let turn = c.loop-t.invariant in
     let there = c.loop-t-test.true in
     let n_is = c.table_count-n.ensures.0 in
-    let most_is = c.room_of-room.ensures.2 in
-    let w_is = c.room_of-room.ensures.0 in
+    let most_is = limit_is _ there in
+    let w_is = width_is _ there in
     let few = c.if-room-n.false in
     again turn there
     (in_place turn there n_is most_is few c.table_offset.ensures.0 c.if-table_offset-at.false)

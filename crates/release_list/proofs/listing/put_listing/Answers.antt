@@ -16,12 +16,12 @@ base_listed input is d = rw (is, take_all (length input - 4) (drop 4 input) (sim
 pub put_count-requires : goal.put_count-requires
 put_count-requires c =
     let (none, room) = c.requires in
-    omega (arith, none, room, count_short (ascii "refused ") c.number.result (omega arith))
+    omega (arith, none, room, count_short (ascii "refused ") c.into.result (omega arith))
 
 pub returns-then-input-lt4-clause-text : goal.returns-then-input-lt4-clause-text
 returns-then-input-lt4-clause-text c =
     let (none, room) = c.requires in
-    let w = rw c.number.ensures at c.put_count.ensures.written in
+    let w = rw c.into.ensures at c.put_count.ensures.written in
     short_listed c.if-input-lt4.true room (rw none at w)
 
 pub returns-else-input-lt4-clause-text : goal.returns-else-input-lt4-clause-text

@@ -48,12 +48,12 @@ returns-in-Ok-clause-text c =
 pub put_count-requires-in-Err : goal.put_count-requires-in-Err
 put_count-requires-in-Err c =
     let (none, room) = c.requires in
-    omega (arith, none, room, count_short (ascii "refused ") c.number.result (omega arith))
+    omega (arith, none, room, count_short (ascii "refused ") c.into.result (omega arith))
 
 pub returns-in-Err-clause-text : goal.returns-in-Err-clause-text
 returns-in-Err-clause-text c =
     let (none, room) = c.requires in
     let answer = c.in-Err.ensures.promise in
     let w = c.put_count-in-Err.ensures.written in
-    refused_listed _ _ _ _ _ refl (rw (← c.number.ensures) at answer) (λ e. refusal_pos _ (sym c.number.ensures ∙ e))
+    refused_listed _ _ _ _ _ refl (rw (← c.into.ensures) at answer) (λ e. refusal_pos _ (sym c.into.ensures ∙ e))
     room (rw none at w)

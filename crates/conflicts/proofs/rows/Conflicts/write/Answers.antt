@@ -5,23 +5,23 @@ use Rattle.conflicts.proofs.Lists.{wrote_none, wrote_more, rows_none, rows_more,
 use Rattle.conflicts.proofs.rows.Conflicts.write.Goals as goal
 
 pub loop-i-init : goal.loop-i-init
-loop-i-init c = rw (rows_none c.number-kind.result c.args.self.now.rows) (wrote_none c.args.out.now c.args.at)
+loop-i-init c = rw (rows_none c.from-kind.result c.args.self.now.rows) (wrote_none c.args.out.now c.args.at)
 
 pub write_row-next-requires : goal.write_row-next-requires
 write_row-next-requires c =
     let s = c.args.self.now in
-    let kind = c.number-kind.result in
+    let kind = c.from-kind.result in
     let room = rows_room kind s.rows s.firsts c.loop-i.i c.loop-i-test.true in
     let Fits : ℕ → Type 0 = λ k. c.args.at + length (rows_records k s.rows s.firsts) ≤ length c.args.out.now in
-    let enough = subst Fits (sym c.number-kind.ensures) c.requires in
+    let enough = subst Fits (sym c.from-kind.ensures) c.requires in
     omega (arith, room, c.loop-i.invariant.place, enough)
 
 pub loop-i-preserved : goal.loop-i-preserved
 loop-i-preserved c =
-    rw (rows_more c.number-kind.result c.args.self.now.rows c.loop-i.i)
+    rw (rows_more c.from-kind.result c.args.self.now.rows c.loop-i.i)
     (wrote_more c.loop-i.invariant _ c.write_row-next.ensures)
 
 pub returns : goal.returns
 returns c =
     let end : c.loop-i.i ≡ c.args.self.now.firsts = omega arith in
-    rw (← c.number-kind.ensures, ← end) (c.loop-i.invariant.place, c.loop-i.invariant.bytes)
+    rw (← c.from-kind.ensures, ← end) (c.loop-i.invariant.place, c.loop-i.invariant.bytes)
