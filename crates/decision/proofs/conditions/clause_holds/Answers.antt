@@ -1,13 +1,11 @@
--- `clause_holds` meets its contract: all of its conditions are asked.
+-- `clause_holds` meets its contract: what each condition is asked is the definition's.
 use Rattle.std.proofs.Common.{rules, tests}
-use Rattle.reader.specs.Fields.{clause_length}
-use Rattle.folds.proofs.Chains.{all_of_range}
 use Rattle.decision.specs.Conditions.{condition_holds, clause_holds}
 use Rattle.decision.proofs.conditions.clause_holds.Goals as goal
 
 pub returns : goal.returns
-unfolding clause_holds
+unfolding clause_holds condition_holds
 returns c =
-    all_of_range
-    (condition_holds c.args.k.now c.args.attributes.entries c.args.attributes.sum c.args.attributes.roles c.args.i)
-    (clause_length c.args.k.now c.args.i) _ _ _ (cc) (λ x b q k. search (rules, tests)) c.all.ensures.ran
+    let a = c.args.attributes in
+    c.all_pass.ensures (condition_holds c.args.k.now a.entries a.sum a.roles c.args.i)
+    (λ j r k. search (rules, tests))

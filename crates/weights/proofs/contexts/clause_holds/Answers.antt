@@ -1,11 +1,9 @@
-use Rattle.std.proofs.Common.{rules, tests, get_or, ◌+◌, ◌*◌}
-use Rattle.folds.proofs.Chains.{all_of_range}
+-- `clause_holds` meets its contract: what each condition is asked is the definition's.
+use Rattle.std.proofs.Common.{rules, tests}
 use Rattle.weights.specs.Contexts.{context_condition_holds, context_clause_holds}
 use Rattle.weights.proofs.contexts.clause_holds.Goals as goal
 
 pub returns : goal.returns
-unfolding context_clause_holds
+unfolding context_clause_holds context_condition_holds
 returns c =
-    let a = c.args in
-    all_of_range (context_condition_holds a.at a.c.now a.i) (get_or a.c.now (16 * a.i + 1) 0) _ _ _ (cc)
-    (λ x b q k. search (rules, tests)) c.all.ensures.ran
+    c.all_pass.ensures (context_condition_holds c.args.at c.args.c.now c.args.i) (λ j r k. search (rules, tests))
