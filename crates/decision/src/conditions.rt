@@ -2,10 +2,10 @@
 ghost use Rattle.std.specs.Prelude.{◌≡◌, ℕ, ◌+◌, ◌*◌, ◌≤◌, ◌<◌, length};
 ghost use Rattle.reader.specs.Tables.{clauses, record_count};
 ghost use Rattle.reader.specs.Fields.{clause_length};
-ghost use Rattle.decision.specs.Conditions.{role_num, attribute, condition_holds, clause_holds, permission_holds};
+ghost use Rattle.decision.specs.Conditions.{role_num, attribute, clause_holds, permission_holds};
 
 use reader::clauses::GroupCondition;
-use reader::conditions::{self, Condition};
+use reader::conditions;
 
 // Inner: role_num, the number of different roles in the set.
 pub fn role_num(set: u8) -> u32
@@ -36,21 +36,14 @@ impl Attributes {
     }
 }
 
-// Condition j of clause i.
-fn condition_holds(k: &[u8], i: usize, j: usize, attributes: Attributes) -> bool
-    requires { (16 * i + 16 ≤ length k.now) × (j < 4) }
-    ensures { result ≡ condition_holds k.now attributes.entries attributes.sum attributes.roles i j }
-{
-    let condition = GroupCondition::read(k, i, j);
-    let x = attributes.attribute(condition.attribute);
-    weights::operators::is_met(condition.operator, x, u32::from(condition.value))
-}
-
 fn clause_holds(k: &[u8], i: usize, attributes: Attributes) -> bool
     requires { (16 * i + 16 ≤ length k.now) × (clause_length k.now i ≤ 4) }
     ensures { result ≡ clause_holds k.now attributes.entries attributes.sum attributes.roles i }
 {
-    (0..conditions::count(k, i)).all(|j| condition_holds(k, i, j, attributes))
+    conditions::all_pass(k, i, |condition: GroupCondition| {
+        let x = attributes.attribute(condition.attribute);
+        weights::operators::is_met(condition.operator, x, u32::from(condition.value))
+    })
 }
 
 // Inner: the permission's condition, by a table K whose clauses have at most 4 conditions.

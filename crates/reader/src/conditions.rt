@@ -1,6 +1,7 @@
 // The records of K and C, 16 bytes each: the second byte is the number n of conditions, and each condition stands in a
 // slot of its own. The slots beyond the n, and the last 2 bytes, are zero bytes.
 ghost use Rattle.std.specs.Prelude.{ℕ, Bool, List, ◌≡◌, ◌+◌, ◌*◌, ◌≤◌, ◌<◌, length};
+ghost use Rattle.folds.specs.Below.{all_below};
 ghost use Rattle.reader.specs.Fields.{condition_count};
 ghost use Rattle.reader.specs.Rules.{slot_bad, rest_bad};
 
@@ -40,6 +41,18 @@ pub fn count(records: &[u8], i: usize) -> usize
     ensures { (result ≡ condition_count records.now i) × (result < 256) }
 {
     usize::from(records[16 * i + 1])
+}
+
+// Inner: each of the n conditions of record i passes the test.
+pub fn all_pass<C: Condition, F: Fn(C) -> bool>(records: &[u8], i: usize, test: F) -> bool
+    requires inside { (16 * i + 16 ≤ length records.now) × (condition_count records.now i ≤ C.SLOTS) }
+    requires callable { (j : ℕ) → j < condition_count records.now i → F.pre test (C.at records.now i j) }
+    ensures { (p : C → Bool) → ((x : C) (r : Bool) → F.post test x r → r ≡ p x) →
+        result ≡ all_below (condition_count records.now i) (λ j. p (C.at records.now i j)) }
+{
+    (0..count(records, i))
+        .map(|j| C::read(records, i, j))
+        .all(test)
 }
 
 // Slot j of record i: one of the n, which keeps the rules, or one beyond n, which is zero bytes.

@@ -3,7 +3,7 @@ ghost use Rattle.std.specs.Prelude.{◌≡◌, false, ◌+◌, ◌*◌, ◌≤�
 ghost use Rattle.reader.specs.Tables.{contexts, record_count};
 ghost use Rattle.reader.specs.Fields.{context_length};
 ghost use Rattle.reader.specs.Rules.{contexts_bad};
-ghost use Rattle.related.specs.Related.{clause_of, fits_at, fits, both_fit, value_fits, some_value_fits};
+ghost use Rattle.related.specs.Related.{clause_of, fits, both_fit, value_fits, some_value_fits};
 ghost use Rattle.related.specs.Related.{meetable, compatible, joins, related};
 
 use reader::RANGES;
@@ -41,21 +41,15 @@ impl Clauses<'_> {
         }
     }
 
-    // Value v of parameter p meets condition k of clause i, where that is on p.
-    fn fits_at(&self, i: usize, p: u8, v: u32, k: usize) -> bool
-        requires { (16 * i + 16 ≤ length self.now.table.now) × (k < 3) }
-        ensures { result ≡ fits_at self.now.table.now i p v k }
-    {
-        let condition = ContextCondition::read(self.table, i, k);
-        condition.parameter != p
-            || weights::operators::is_met(condition.operator, v, u32::from(condition.value))
-    }
-
-    // Value v of parameter p meets the conditions of clause i on that parameter.
+    // Value v of parameter p meets the conditions of clause i on that parameter; there are none behind the table.
     fn fits_all(&self, i: usize, p: u8, v: u32) -> bool
         ensures { result ≡ fits self.now.table.now i p v }
     {
-        (0..self.length_of(i)).all(|k| self.fits_at(i, p, v, k))
+        self.table.len() / 16 <= i
+            || conditions::all_pass(self.table, i, |condition: ContextCondition| {
+                condition.parameter != p
+                    || weights::operators::is_met(condition.operator, v, u32::from(condition.value))
+            })
     }
 
     fn both_fit(&self, i: usize, j: usize, p: u8, v: u32) -> bool

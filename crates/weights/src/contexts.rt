@@ -2,11 +2,11 @@
 ghost use Rattle.std.specs.Prelude.{◌≡◌, false, ◌+◌, ◌*◌, ◌≤◌, ◌<◌, length};
 ghost use Rattle.reader.specs.Fields.{context_length};
 ghost use Rattle.reader.specs.Rules.{contexts_bad};
-ghost use Rattle.weights.specs.Contexts.{out_of_range, value_of, context_condition_holds, context_clause_holds};
+ghost use Rattle.weights.specs.Contexts.{out_of_range, value_of, context_clause_holds};
 ghost use Rattle.weights.specs.Setting.{Holding};
 
 use crate::{Context, operators, sets};
-use reader::conditions::{self, Condition};
+use reader::conditions;
 use reader::contexts::ContextCondition;
 
 // Inner: refusal 11.
@@ -29,21 +29,14 @@ fn value_of(at: Context, parameter: u8) -> u32
     }
 }
 
-// Condition j of clause i.
-fn condition_holds(c: &[u8], i: usize, j: usize, at: Context) -> bool
-    requires { (16 * i + 16 ≤ length c.now) × (j < 3) }
-    ensures { result ≡ context_condition_holds at c.now i j }
-{
-    let condition = ContextCondition::read(c, i, j);
-    let x = value_of(at, condition.parameter);
-    operators::is_met(condition.operator, x, u32::from(condition.value))
-}
-
 fn clause_holds(c: &[u8], i: usize, at: Context) -> bool
     requires { (16 * i + 16 ≤ length c.now) × (context_length c.now i ≤ 3) }
     ensures { result ≡ context_clause_holds at c.now i }
 {
-    (0..conditions::count(c, i)).all(|j| condition_holds(c, i, j, at))
+    conditions::all_pass(c, i, |condition: ContextCondition| {
+        let x = value_of(at, condition.parameter);
+        operators::is_met(condition.operator, x, u32::from(condition.value))
+    })
 }
 
 // Inner: the set of the context numbers that hold, by a table C that passed the check.

@@ -1,13 +1,12 @@
--- `clause_holds` meets its contract: all of its conditions are asked.
+-- `clause_holds` meets its contract: what each condition is asked is the definition's.
 use Rattle.std.proofs.Common.{rules, tests}
-use Rattle.reader.specs.Fields.{clause_length}
-use Rattle.folds.proofs.Chains.{all_of_range}
-use Rattle.decision.specs.Conditions.{condition_holds, clause_holds}
+use Rattle.weights.specs.Operators.{meets}
+use Rattle.decision.specs.Conditions.{attribute, condition_holds, clause_holds}
 use Rattle.decision.proofs.conditions.clause_holds.Goals as goal
 
 pub returns : goal.returns
-unfolding clause_holds
+unfolding clause_holds condition_holds
 returns c =
-    all_of_range
-    (condition_holds c.args.k.now c.args.attributes.entries c.args.attributes.sum c.args.attributes.roles c.args.i)
-    (clause_length c.args.k.now c.args.i) _ _ _ (cc) (λ x b q k. search (rules, tests)) c.all.ensures.ran
+    let a = c.args.attributes in
+    c.all_pass.ensures (λ x. meets x.operator (attribute a.entries a.sum a.roles x.attribute) x.value)
+    (λ x r k. search (rules, tests))

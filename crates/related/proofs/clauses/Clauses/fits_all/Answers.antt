@@ -1,22 +1,26 @@
--- `fits_all` meets its contract: the condition that it looks for is one that the value doesn't meet.
-use Rattle.std.proofs.Common.{rules, tests}
-use Rattle.std.proofs.lemmas.Iterator.{serves_from_Range}
-use Rattle.folds.proofs.Chains.{all_of_range}
-use Rattle.related.specs.Related.{fits_at, fits}
-use Rattle.related.proofs.Relating.{condition_inside}
+-- `fits_all` meets its contract: a clause behind the table has no conditions, one in it at most 3 by the rules.
+use Rattle.std.proofs.Common.{rules, tests, arith, ◌||◌, not, eqb}
+use Rattle.folds.specs.Below.{all_below}
+use Rattle.reader.proofs.Accepted.{context_fine}
+use Rattle.weights.specs.Operators.{meets}
+use Rattle.related.specs.Related.{fits}
+use Rattle.related.proofs.Relating.{no_conditions}
 use Rattle.related.proofs.clauses.Clauses.fits_all.Goals as goal
 
-pub all-requires-clause-callable : goal.all-requires-clause-callable
-all-requires-clause-callable c =
+pub all_pass-requires-clause-inside : goal.all_pass-requires-clause-inside
+all_pass-requires-clause-inside c =
     let clauses = c.args.self.now in
-    serves_from_Range (λ x q k. search rules)
-    (λ k s l.
-    let inside = condition_inside clauses.table.now clauses.whole c.args.i c.length_of.ensures l in search rules)
+    (omega arith, (context_fine 0 0 clauses.table.now c.args.i clauses.fine (omega arith)).at_most)
 
-pub returns : goal.returns
+pub returns-then-self-i : goal.returns-then-self-i
+unfolding fits all_below
+returns-then-self-i c =
+    let clauses = c.args.self.now in
+    let none = no_conditions clauses.table.now clauses.whole c.args.i (omega arith) in
+    rw none (search (rules, tests))
+
+pub returns-else-self-i : goal.returns-else-self-i
 unfolding fits
-returns c =
+returns-else-self-i c =
     let a = c.args in
-    rw (← c.length_of.ensures.0)
-    (all_of_range (fits_at a.self.now.table.now a.i a.p a.v) c.length_of.result _ _ _ (cc)
-    (λ x b q k. search (rules, tests)) c.all.ensures.ran)
+    c.all_pass.ensures (λ x. not (eqb x.parameter a.p) || meets x.operator a.v x.value) (λ x r k. search (rules, tests))
