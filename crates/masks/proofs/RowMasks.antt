@@ -18,7 +18,7 @@ use Rattle.std.specs.List.{fold}
 use Rattle.std.proofs.lemmas.List.{length-take, get_or-take, get_or-drop}
 use Rattle.std.proofs.Common.{length-drop}
 use Rattle.masks.specs.Rows.{Joined, RowFor, Rows}
-use Rattle.masks.proofs.Chains.{fold_steps, before_end, from_end, length_end}
+use Rattle.masks.proofs.Chains.{fold_steps, before_end, from_end}
 
 -- at first no mask is joined
 joined_none : (from : ℕ) {masks : List ℕ} → Joined from from masks 0
@@ -120,7 +120,6 @@ module _ {count sum light heavy : ℕ} (few : count ≤ 6) where
   rows_all made long l each =
       let size = long ∙ rows_size count in
       record {
-        size = length_end zeros made (7 - count) size (omega arith);
         each = λ n h. rw (before_end zeros made (7 - count) n size (omega arith)) (each n (omega arith));
         past = λ n h. from_end zeros made (7 - count) n size (omega arith) ∙ zero_at 7 n;
       }
