@@ -18,7 +18,7 @@ use Rattle.multisets.specs.Rising.{Entry, Rises, entries_sum, entries_roles}
 use Rattle.seek.specs.Search.{met_by, by_masks, Meets, Answered}
 use Rattle.masks.specs.declared.Placed.{Placed}
 use Rattle.masks.specs.declared.Weighed.{Weighed}
-use Rattle.fewest.specs.Search.{holds_with, WeighedBelow, LastRow}
+use Rattle.fewest.specs.Search.{holds_with, WeighedBelow, IsLast}
 
 -- the sum and the set of entries by rising user, whose roles have weight
 module _ (sets : List ℕ) {w : List ℕ} {s : Weighed} (weighed : WeighedBelow w 8 s) where
@@ -59,6 +59,24 @@ pub record Telling (k : List ℕ) (p : ℕ) (w : List ℕ) (s : Weighed) (start 
   pub nobody : start.count ≡ 0 → get_or rows 0 0 ≡ 0
   pub past : (n : ℕ) → 6 < start.count + n → get_or rows n 0 ≡ 0
 
+-- nothing is found where the condition never holds
+pub fewest_none : {sets w : List ℕ} {placed last : ℕ} {condition : ℕ → ℕ → ℕ → Bool} {bytes : List ℕ} →
+    ((g : List Entry) → Rises sets w 0 g → length g ≤ last →
+    condition (length g) (placed + entries_sum w g) (entries_roles g) ≡ false) →
+    Answered sets w placed condition last 7 bytes
+fewest_none {sets} {w} {placed} {last} {condition} none = record {
+  group = [];
+  sought = record {
+    few = omega arith;
+    within = λ h. absurd (omega arith);
+    many = λ h. absurd (omega arith);
+    meets = λ h. absurd (omega arith);
+    least = λ g l m. clash (condition (length g) (placed + entries_sum w g) (entries_roles g)) m.met
+        (none g m.rises l);
+  };
+  shown = λ h. absurd (omega arith);
+}
+
 module _ {k : List ℕ} {p : ℕ} {w : List ℕ} {s : Weighed} {start : Placed} {by_sum by_set rows : List ℕ}
     (told : Telling k p w s start by_sum by_set rows) (weighed : WeighedBelow w 8 s) where
   empty_row : (n sum set : ℕ) → get_or rows n 0 ≡ 0 → by_masks rows by_sum by_set n sum set ≡ false
@@ -96,7 +114,13 @@ module _ {k : List ℕ} {p : ℕ} {w : List ℕ} {s : Weighed} {start : Placed} 
           (roles_low sets weighed 0 g rises) (λ r l i. roles_heavy sets weighed 0 g rises r i)
           ∙ rw (lt-ltb 0 (start.count + length g) one) refl
 
-  module _ {sets : List ℕ} {last n : ℕ} {bytes : List ℕ} (few : start.count ≤ 6) (is_last : LastRow rows last)
+  -- nothing is found where all rows are empty
+  pub no_row : {sets bytes : List ℕ} → start.count ≤ 6 → ((n : ℕ) → n < 7 → get_or rows n 0 ≡ 0) →
+      Answered sets w start.sum (holds_with k p start) (6 - start.count) 7 bytes
+  no_row few empty = fewest_none
+      (λ g rises l. sym (same_test _ g rises (omega arith)) ∙ empty_row (length g) _ _ (empty (length g) (omega arith)))
+
+  module _ {sets : List ℕ} {last n : ℕ} {bytes : List ℕ} (few : start.count ≤ 6) (is_last : IsLast rows last)
       (a : Answered sets w start.sum (by_masks rows by_sum by_set) last n bytes) where
     -- a group of so many entries is no larger than six
     six : (g : List Entry) → length g ≡ n → Meets sets w start.sum (by_masks rows by_sum by_set n) g →
@@ -145,21 +169,3 @@ module _ {k : List ℕ} {p : ℕ} {w : List ℕ} {s : Weighed} {start : Placed} 
       };
       shown = a.shown;
     }
-
--- nothing is found where the condition never holds
-pub fewest_none : {sets w : List ℕ} {placed last : ℕ} {condition : ℕ → ℕ → ℕ → Bool} {bytes : List ℕ} →
-    ((g : List Entry) → Rises sets w 0 g → length g ≤ last →
-    condition (length g) (placed + entries_sum w g) (entries_roles g) ≡ false) →
-    Answered sets w placed condition last 7 bytes
-fewest_none {sets} {w} {placed} {last} {condition} none = record {
-  group = [];
-  sought = record {
-    few = omega arith;
-    within = λ h. absurd (omega arith);
-    many = λ h. absurd (omega arith);
-    meets = λ h. absurd (omega arith);
-    least = λ g l m. clash (condition (length g) (placed + entries_sum w g) (entries_roles g)) m.met
-        (none g m.rises l);
-  };
-  shown = λ h. absurd (omega arith);
-}

@@ -20,7 +20,7 @@ use Rattle.masks.specs.Clauses.{clauses_of}
 use Rattle.masks.specs.Masks.{Masks}
 use Rattle.masks.specs.Masks as masks
 use Rattle.masks.proofs.Telling.{bare}
-use Rattle.fewest.specs.Search.{holds_with, WeighedBelow, LastRow, Seeking}
+use Rattle.fewest.specs.Search.{holds_with, WeighedBelow, IsLast, Seeking}
 use Rattle.fewest.proofs.Asked.{Telling, fewest_none}
 
 module _ {k w : List ℕ} {start : Placed} {d : ℕ} {counts : List ℕ} (s : Seeking k w start d counts) where
@@ -46,10 +46,8 @@ module _ {k w : List ℕ} {start : Placed} {d : ℕ} {counts : List ℕ} (s : Se
         mul-le-mul (le_refl (6 - start.count)) weighed.most in
         omega arith
 
-    pub masks_ready : {own : ℕ} {sums sets : List ℕ} → own < 2 ^ record_count clauses k → length sums ≡ 256 →
-        length sets ≡ 256 →
-        masks.Ready k own v start counts sums sets
-    masks_ready own_lt sums_size sets_size = record {
+    pub masks_ready : {own : ℕ} → own < 2 ^ record_count clauses k → masks.Ready k own v start counts
+    masks_ready own_lt = record {
       table = s.checked;
       own_lt = own_lt;
       light_le = weighed.ordered;
@@ -60,8 +58,6 @@ module _ {k w : List ℕ} {start : Placed} {d : ℕ} {counts : List ℕ} (s : Se
       end_le = end_le;
       placed_roles = s.acted;
       counted = s.counted;
-      sums_size = sums_size;
-      sets_size = sets_size;
     }
 
     module _ {own : ℕ} {sums sets rows : List ℕ} (m : Masks k own w v start sums sets rows) where
@@ -82,18 +78,13 @@ module _ {k w : List ℕ} {start : Placed} {d : ℕ} {counts : List ℕ} (s : Se
       telling {p} is = record { tells = m.tells p is; nobody = λ z. m.none 0 (omega arith); past = m.past }
 
       -- the last row asks for at most six entries in all
-      last_few : {last : ℕ} → LastRow rows last → start.count + last ≤ 6
+      last_few : {last : ℕ} → IsLast rows last → start.count + last ≤ 6
       last_few {last} r = ⊎_elim
           (λ h. leb-true _ _ h)
-          (λ h.
-          let l = leb-false _ _ h in
-          ⊎_elim
-          (λ z. absurd (omega (arith, s.few)))
-          (λ some. absurd (r.some some (m.past last l)))
-          (eq-zero-or-pos last))
+          (λ h. absurd (r.some (m.past last (leb-false _ _ h))))
           (met_or_not (leb (start.count + last) 6))
 
-      pub last_sum : {last : ℕ} → LastRow rows last → start.sum + last * 40 ≤ 255
+      pub last_sum : {last : ℕ} → IsLast rows last → start.sum + last * 40 ≤ 255
       last_sum r = let a = s.sum in omega (arith, last_few r)
 
   -- without a clause nothing is found

@@ -1,5 +1,5 @@
 -- The search for a permission: from entries placed before, the fewest more that meet its condition. Working notions.
-use Rattle.std.specs.Prelude.{ℕ, ◌+◌, ◌-◌, ◌*◌, ◌^◌, ◌<◌, ◌≤◌, Bool, ◌&&◌, ◌≡◌, List, ltb, get_or}
+use Rattle.std.specs.Prelude.{ℕ, ◌+◌, ◌-◌, ◌*◌, ◌^◌, ◌<◌, ◌≤◌, Bool, ◌&&◌, ◌≡◌, List, ltb, get_or, Option, MatchOption}
 use Rattle.std.specs.Int.Bits.{bit_or}
 use Rattle.decision.specs.Conditions.{permission_holds}
 use Rattle.masks.specs.Clauses.{Checked}
@@ -26,11 +26,15 @@ pub record WeighedBelow (w : List ℕ) (n : ℕ) (s : Weighed) : Type 0 where
   pub ordered : s.light ≤ s.heavy
   pub most : s.heavy ≤ 40
 
--- the last row that isn't empty, or 0
-pub record LastRow (rows : List ℕ) (last : ℕ) : Type 0 where
+-- the last row that isn't empty
+pub record IsLast (rows : List ℕ) (last : ℕ) : Type 0 where
   pub within : last ≤ 6
   pub past : (n : ℕ) → last < n → n < 7 → get_or rows n 0 ≡ 0
-  pub some : 0 < last → get_or rows last 0 ≡ 0 → ⊥
+  pub some : get_or rows last 0 ≡ 0 → ⊥
+
+-- or that there is none
+abbrev pub LastRow : List ℕ → Option ℕ → Type 0
+LastRow rows last = MatchOption last ((n : ℕ) → n < 7 → get_or rows n 0 ≡ 0) (IsLast rows)
 
 -- what the search is handed: a table K that passed the check, weights of roles below d, and what is placed before
 pub record Seeking (k w : List ℕ) (start : Placed) (d : ℕ) (counts : List ℕ) : Type 0 where

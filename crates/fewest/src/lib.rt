@@ -2,7 +2,7 @@
 // no base.
 #![tactic(auto)]
 
-ghost use Rattle.std.specs.Prelude.{◌≡◌, List, ℕ, ◌-◌, length};
+ghost use Rattle.std.specs.Prelude.{◌≡◌, List, ℕ, ◌-◌};
 ghost use Rattle.multisets.specs.Ends.{NextEnds};
 ghost use Rattle.seek.specs.Answer.{AnsweredWith};
 ghost use Rattle.fewest.specs.Search.{holds_with, LastRow, Seeking};
@@ -14,12 +14,11 @@ use seek::{Found, Masks};
 
 mod weighing;
 
-// The last row that isn't empty, or 0.
-fn last_row(rows: [u64; 7]) -> usize
-    requires { length rows ≡ 7 }
-    ensures { LastRow rows result }
+// The last row that isn't empty.
+fn last_row(rows: &[u64; 7]) -> Option<usize>
+    ensures { LastRow rows.now result }
 {
-    rows.iter().rposition(|row| *row != 0).unwrap_or(0)
+    rows.iter().rposition(|row| *row != 0)
 }
 
 // Inner: the fewest entries more that, with those placed at most six, meet the permission's condition with them, by a
@@ -30,7 +29,7 @@ pub fn fewest<const ROWS: usize, const PLACES: usize>(
     permission: u8,
     w: [u8; 8],
     start: Placed,
-    counts: &[u8],
+    counts: &[u8; 256],
     tables: &mut LevelTables<ROWS, PLACES>,
     masks: &mut Masks,
 ) -> Option<Found>
@@ -45,10 +44,8 @@ pub fn fewest<const ROWS: usize, const PLACES: usize>(
     if own == 0 || weighed.heavy + start.count == 0 {
         return None;
     }
-    // Borrowed, the arrays tell their lengths.
-    let (_sums, _sets) = (&masks.sums, &masks.sets);
     let rows = masks::masks_for(k, own, w, weighed, start, counts, masks);
-    let last = last_row(rows);
+    let last = last_row(&rows)?;
     seek::search(
         tables,
         masks,

@@ -83,14 +83,10 @@ pub doubled : {half without with v : ℕ} {was masks : List ℕ} → Doubling ha
 doubled d e = record { size = d.size; lower = rw e at d.lower; upper = rw e at d.upper }
 
 -- one set more is counted
-pub counted_next : {v count : ℕ} {counts : List ℕ} → RoleCounts v counts → v < 256 → count ≡ role_num v
-    → RoleCounts (v + 1) (set counts v count)
+pub counted_next : {v count : ℕ} {counts : List ℕ} → RoleCounts v counts → v < length counts
+    → count ≡ role_num v → RoleCounts (v + 1) (set counts v count)
 counted_next {v} {count} {counts} c l e =
-    let size = c.size in
-    record {
-      size = length-set counts v count ∙ size;
-      each = stored counts v count (λ u x. x ≡ role_num u) (omega arith) c.each e;
-    }
+    record { each = stored counts v count (λ u x. x ≡ role_num u) l c.each e }
 
 -- the first v of the masks have only clauses that the number of roles meets
 pub record Fitted (v : ℕ) (numbers : List ℕ) (start : ℕ) (was sets : List ℕ) : Type 0 where
@@ -155,7 +151,6 @@ module _ {entries : List ℕ} {count sum light heavy reached m : ℕ} {sums rows
 
   pub rows_all : m ≡ 7 - count → count ≤ 6 → Rows entries count sum light heavy reached sums rows
   rows_all e l = record {
-    size = r.size;
     each = λ n h. r.each n (omega arith);
     past = λ n h. r.rest n (omega arith);
   }

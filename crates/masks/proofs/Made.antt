@@ -26,8 +26,8 @@ use Rattle.masks.proofs.Narrowing.{narrowed_same}
 use Rattle.masks.proofs.RowMasks.{joined_front}
 use Rattle.masks.proofs.Telling.{kept, tells}
 
-module _ {k : List ℕ} {own : ℕ} {weighed : Weighed} {placed : Placed} {counts sums₀ sets₀ : List ℕ}
-    (ready : Ready k own weighed placed counts sums₀ sets₀) where
+module _ {k : List ℕ} {own : ℕ} {weighed : Weighed} {placed : Placed} {counts : List ℕ}
+    (ready : Ready k own weighed placed counts) where
   -- the roles of a set and of the entries placed are counted
   pub set_counted : (v : ℕ) → v < 2 ^ weighed.end
       → get_or counts (bit_or placed.roles v) 0 ≡ role_num (bit_or placed.roles v)
@@ -38,28 +38,25 @@ module _ {k : List ℕ} {own : ℕ} {weighed : Weighed} {placed : Placed} {count
   abbrev top : ℕ
   top = placed.sum + (6 - placed.count) * weighed.heavy
 
-  pub masks_made : {asked : Asked} {part w sets : List ℕ} {half reached : ℕ} {rows : List ℕ}
-      → length part ≡ length (take (top + 1) sums₀)
+  pub masks_made : (sums₀ : List ℕ) {asked : Asked} {part w sets : List ℕ} {half reached : ℕ} {rows : List ℕ}
+      → length sums₀ ≡ 256 → length sets ≡ 256 → length part ≡ length (take (top + 1) sums₀)
       → NarrowedAll k own 0 (length (take (top + 1) sums₀)) asked part
       → SetsFor own asked.numbers asked.roles w placed.roles weighed.end sets
       → (half ≡ 2 ^ weighed.end) × (half ≤ 256) → Joined 0 (length (take half sets)) (take half sets) reached
       → Rows asked.entries placed.count placed.sum weighed.light weighed.heavy reached
       (part ++ drop (top + 1) sums₀) rows
       → Masks k own w weighed placed (part ++ drop (top + 1) sums₀) sets rows
-  masks_made {part = part} {w} {sets} size narrowed marked e joined made =
+  masks_made sums₀ {part = part} {w} {sets} all held size narrowed marked e joined made =
       let taken = length-take (top + 1) sums₀ in
-      let all = ready.sums_size in
       let most = ready.top_le in
       let long : length part ≡ top + 1 = omega arith in
       let few = e.1 in
-      let held = marked.size in
       let first : Joined 0 (2 ^ weighed.end) sets _ = rw (e.0) at (joined_front sets (omega arith) joined) in
       let within = narrowed_same (rw (← size, long) at narrowed)
       (λ x l. before_end sums₀ part (top + 1) x long l) in
       record {
         sums_size = length_end sums₀ part (top + 1) long (omega arith) ∙ all;
         sets_size = held;
-        rows_size = made.size;
         tells = λ p own_is n s v some few low high below weigh.
             let most : n * weighed.heavy ≤ (6 - placed.count) * weighed.heavy =
             mul-le-mul_right weighed.heavy (omega arith) in

@@ -121,7 +121,6 @@ module _ {count sum light heavy : ℕ} (few : count ≤ 6) where
   rows_all made long l each =
       let size = long ∙ rows_size count in
       record {
-        size = length_end zeros made (7 - count) size (omega arith);
         each = λ n h. rw (before_end zeros made (7 - count) n size (omega arith)) (each n (omega arith));
         past = λ n h. from_end zeros made (7 - count) n size (omega arith) ∙ zero_at 7 n;
       }

@@ -200,7 +200,6 @@ module _ (own : ℕ) (roles w : List ℕ) (start end : ℕ) where
   pub marked_all : {sets : List ℕ} → end ≤ 8 → MarkedTo own roles w start end end sets
       → SetsMarked own roles w start end sets
   marked_all h m = record {
-    size = m.size;
     members = λ v b l.
         m.members v b l ∙ and_assoc (in_set own b) _ _ ∙ ap (λ (c : Bool). in_set own b && c) (all_roles v b l h);
   }
@@ -218,7 +217,6 @@ counted_all {end} was counts size l e c =
     let t = length-take end was in
     let long : length counts ≡ end = omega arith in
     record {
-      size = length_end was counts end long (omega arith) ∙ size;
       each = λ v m. before_end was counts end v long m ∙ c.done v (omega arith);
     }
 
@@ -229,16 +227,14 @@ counted counts e c h = c ∙ rw e h
 
 -- the masks of the sets, where clauses ask for numbers of roles
 pub sets_fitted : {own : ℕ} {roles w : List ℕ} {start end half : ℕ} {was sets : List ℕ} (numbers : List ℕ)
-    → (half ≡ 2 ^ end) × (half ≤ 256) → SetsMarked own roles w start end was
+    → length was ≡ 256 → (half ≡ 2 ^ end) × (half ≤ 256) → SetsMarked own roles w start end was
     → NumbersFit (length (take half was)) numbers start (take half was) sets
     → SetsFor own numbers roles w start end (sets ++ drop half was)
-sets_fitted {start = start} {half = half} {was} {sets} numbers e m f =
-    let size = m.size in
+sets_fitted {start = start} {half = half} {was} {sets} numbers size e m f =
     let few = e.1 in
     let all = length-take half was in
     let long : length sets ≡ half = f.size ∙ omega arith in
     record {
-      size = length_end was sets half long (omega arith) ∙ size;
       members = λ v b l.
           let less : v < half = rw (e.0) l in
           ap (λ (x : ℕ). in_set x b) (before_end was sets half v long less ∙ f.each v (omega arith)
@@ -252,7 +248,6 @@ pub sets_plain : {own : ℕ} {roles w : List ℕ} {start end : ℕ} {sets : List
     → ((c : ℕ) → c < 9 → get_or numbers c 0 ≡ own) → SetsMarked own roles w start end sets
     → SetsFor own numbers roles w start end sets
 sets_plain {own} {start = start} numbers h m = record {
-  size = m.size;
   members = λ v b l. m.members v b l
       ∙ rw (h (role_num (bit_or start v)) (let k = role_num_le (bit_or start v) in omega arith)) (by (in_set own b) _);
 }

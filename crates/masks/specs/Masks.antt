@@ -10,9 +10,9 @@ use Rattle.masks.specs.declared.Weighed.{Weighed}
 use Rattle.masks.specs.Clauses.{clauses_of, Checked}
 use Rattle.masks.specs.Sets.{RoleCounts}
 
--- what the masks are made of: clauses `own` of a table K, entries placed, and the weights; and what they are written
--- into. The roles are those below `roles`.
-pub record Ready (k : List ℕ) (own : ℕ) (weighed : Weighed) (placed : Placed) (counts sums sets : List ℕ) : Type 0 where
+-- what the masks are made of: clauses `own` of a table K, entries placed, and the weights. The roles are those below
+-- `roles`.
+pub record Ready (k : List ℕ) (own : ℕ) (weighed : Weighed) (placed : Placed) (counts : List ℕ) : Type 0 where
   pub table : Checked k
   pub own_lt : own < 2 ^ record_count clauses k
   pub light_le : weighed.light ≤ weighed.heavy
@@ -23,15 +23,12 @@ pub record Ready (k : List ℕ) (own : ℕ) (weighed : Weighed) (placed : Placed
   pub end_le : weighed.end ≤ roles
   pub placed_roles : placed.roles < 2 ^ roles
   pub counted : RoleCounts (2 ^ roles) counts
-  pub sums_size : length sums ≡ 256
-  pub sets_size : length sets ≡ 256
 
 -- the masks of the sums and the sets of roles, and for each number n of entries more a row of clauses
 pub record Masks (k : List ℕ) (own : ℕ) (w : List ℕ) (weighed : Weighed) (placed : Placed)
     (sums sets rows : List ℕ) : Type 0 where
   pub sums_size : length sums ≡ 256
   pub sets_size : length sets ≡ 256
-  pub rows_size : length rows ≡ 7
   -- n entries more with the sum s in all and the set v of roles, each of which has weight, meet the condition of the
   -- permission whose clauses these are exactly where a clause is in all three
   pub tells : (p : ℕ) → own ≡ clauses_of k p → (n s v : ℕ) → 1 ≤ placed.count + n → placed.count + n ≤ 6

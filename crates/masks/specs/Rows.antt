@@ -1,5 +1,5 @@
 -- For each number of entries more the clauses that may be met with so many.
-use Rattle.std.specs.Prelude.{ℕ, ◌+◌, ◌*◌, ◌≤◌, ◌<◌, true, ◌≡◌, List, length, get_or}
+use Rattle.std.specs.Prelude.{ℕ, ◌+◌, ◌*◌, ◌≤◌, ◌<◌, true, ◌≡◌, List, get_or}
 use Rattle.folds.specs.Sets.{in_set}
 
 -- the clauses that are in some mask from entry `from` to before `end`
@@ -16,7 +16,6 @@ pub record RowFor (entries : List ℕ) (number reached : ℕ) (sums : List ℕ) 
 
 -- that of each number of entries more than `count`
 pub record Rows (entries : List ℕ) (count sum light heavy reached : ℕ) (sums rows : List ℕ) : Type 0 where
-  pub size : length rows ≡ 7
   pub each : (n : ℕ) → count + n ≤ 6
       → RowFor entries (count + n) reached sums (sum + n * light) (sum + n * heavy + 1) (get_or rows n 0)
   pub past : (n : ℕ) → 6 < count + n → get_or rows n 0 ≡ 0

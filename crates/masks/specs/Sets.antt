@@ -7,7 +7,6 @@ use Rattle.decision.specs.Conditions.{role_num}
 
 -- the number of different roles of each set below `end`
 pub record RoleCounts (end : ℕ) (counts : List ℕ) : Type 0 where
-  pub size : length counts ≡ 256
   pub each : (v : ℕ) → v < end → get_or counts v 0 ≡ role_num v
 
 -- of the clauses `own`, for each role those that a set without it can meet: all if it is in `start`
@@ -42,7 +41,6 @@ pub record Doubled (half without with : ℕ) (was masks : List ℕ) : Type 0 whe
 
 -- the masks of the sets below 2 ^ end by the roles that the clauses ask for
 pub record SetsMarked (own : ℕ) (roles w : List ℕ) (start end : ℕ) (sets : List ℕ) : Type 0 where
-  pub size : length sets ≡ 256
   pub members : (v b : ℕ) → v < 2 ^ end
       → in_set (get_or sets v 0) b ≡ (in_set own b && all_below 8 (role_fits roles w start v b))
 
@@ -54,7 +52,6 @@ pub record NumbersFit (end : ℕ) (numbers : List ℕ) (start : ℕ) (was sets :
 
 -- the masks of the sets of roles below `end`
 pub record SetsFor (own : ℕ) (numbers roles w : List ℕ) (start end : ℕ) (sets : List ℕ) : Type 0 where
-  pub size : length sets ≡ 256
   pub members : (v b : ℕ) → v < 2 ^ end → in_set (get_or sets v 0) b
       ≡ ((in_set own b && all_below 8 (role_fits roles w start v b))
       && in_set (get_or numbers (role_num (bit_or start v)) 0) b)

@@ -33,10 +33,10 @@ pub fn masks_for(
     w: [u8; 8],
     weighed: Weighed,
     placed: Placed,
-    counts: &[u8],
+    counts: &[u8; 256],
     masks: &mut seek::Masks,
 ) -> [u64; 7]
-    requires { Ready k.now own weighed placed counts.now masks.old.sums masks.old.sets }
+    requires { Ready k.now own weighed placed counts.now }
     ensures { Masks k.now own w weighed placed masks.new.sums masks.new.sets result }
 {
     let top = placed.sum + (6 - placed.count) * weighed.heavy;

@@ -11,8 +11,8 @@ use reader::bytes;
 use std::array;
 
 // Inner: the number of different roles of each set below `end`.
-pub fn role_counts(counts: &mut [u8], end: usize)
-    requires { (length counts.old ≡ 256) × (end ≤ 256) }
+pub fn role_counts(counts: &mut [u8; 256], end: usize)
+    requires { end ≤ 256 }
     ensures { RoleCounts end counts.new }
 {
     for (v, count) in counts[..end].iter_mut().enumerate() {
@@ -64,8 +64,8 @@ pub fn sets_below(d: u8) -> usize
 }
 
 // The masks by the roles that the clauses ask for.
-fn mark_sets(own: u64, without: &[u64; 8], w: [u8; 8], end: u8, sets: &mut [u64])
-    requires { (end ≤ 8) × (length sets.old ≡ 256) }
+fn mark_sets(own: u64, without: &[u64; 8], w: [u8; 8], end: u8, sets: &mut [u64; 256])
+    requires { end ≤ 8 }
     ensures { (roles : List ℕ) (start : ℕ) → Without own roles start without.now →
         SetsMarked own roles w start end sets.new }
 {
@@ -78,8 +78,8 @@ fn mark_sets(own: u64, without: &[u64; 8], w: [u8; 8], end: u8, sets: &mut [u64]
 }
 
 // Leaves in the masks of the sets from 0 on the clauses that the number of roles meets.
-fn fit_numbers(sets: &mut [u64], numbers: &[u64; 9], counts: &[u8], start: u8)
-    requires { (length sets.old ≤ 256) × (length counts.now ≡ 256)
+fn fit_numbers(sets: &mut [u64], numbers: &[u64; 9], counts: &[u8; 256], start: u8)
+    requires { (length sets.old ≤ 256)
         × ((v : ℕ) → v < length sets.old → get_or counts.now (bit_or start v) 0 ≡ role_num (bit_or start v)) }
     ensures { NumbersFit (length sets.old) numbers.now start sets.old sets.new }
 {
@@ -96,11 +96,10 @@ pub fn sets_for(
     w: [u8; 8],
     start: u8,
     end: u8,
-    counts: &[u8],
-    sets: &mut [u64],
+    counts: &[u8; 256],
+    sets: &mut [u64; 256],
 )
-    requires { (end ≤ 8) × (length sets.old ≡ 256) × (length counts.now ≡ 256)
-        × ((v : ℕ) → v < 2 ^ end → get_or counts.now (bit_or start v) 0 ≡ role_num (bit_or start v)) }
+    requires { (end ≤ 8) × ((v : ℕ) → v < 2 ^ end → get_or counts.now (bit_or start v) 0 ≡ role_num (bit_or start v)) }
     ensures { SetsFor own asked.now.numbers asked.now.roles w start end sets.new }
 {
     mark_sets(own, &without_role(own, &asked.roles, start), w, end, sets);

@@ -1,6 +1,6 @@
 -- The masks tell the permission's condition, so the search by masks finds the answer.
 use Rattle.std.proofs.Common.{rules, refl, sym, ◌∙◌}
-use Rattle.fewest.proofs.Asked.{fewest_is}
+use Rattle.fewest.proofs.Asked.{no_row, fewest_is}
 use Rattle.fewest.proofs.Seek.{masks_ready, search_ready, telling, no_clause, no_weight, last_sum}
 use Rattle.fewest.proofs.fewest.Goals as goal
 use Rattle.fewest.proofs.fewest.Goals.{then-own-eq0-via-then-own-eq0}
@@ -23,11 +23,23 @@ returns-then-own-eq0 g c = (
 
 pub masks_for-rows-requires : goal.masks_for-rows-requires
 masks_for-rows-requires g c =
-    masks_ready c.requires.0 c.weighed-weighed.ensures c.own_clauses-own.ensures.1 (search rules) (search rules)
+    masks_ready c.requires.0 c.weighed-weighed.ensures c.own_clauses-own.ensures.1
+
+pub returns-in_err-last : goal.returns-in_err-last
+returns-in_err-last g c =
+    let told = telling c.requires.0 c.weighed-weighed.ensures c.masks_for-rows.ensures c.own_clauses-own.ensures.0 in
+    rw c.from_residual.ensures (
+      refl,
+      refl,
+      λ sets next. record {
+        answered = no_row told c.weighed-weighed.ensures c.requires.0.few c.in_err-last.ensures;
+        some = tt;
+      },
+    )
 
 pub search-requires : goal.search-requires
 search-requires g c =
-    let last = c.last_row-last.ensures in (
+    let last = c.in_ok-last.ensures in (
       search rules,
       (
         last.within,
@@ -43,7 +55,7 @@ returns g c =
       roles,
       nexts,
       λ sets next. record {
-        answered = fewest_is told c.weighed-weighed.ensures c.requires.0.few c.last_row-last.ensures
+        answered = fewest_is told c.weighed-weighed.ensures c.requires.0.few c.in_ok-last.ensures
             (answered sets next).answered;
         some = (answered sets next).some;
       },

@@ -10,5 +10,5 @@ bounds-numbers-wide c =
     let most = role_num_le set in
     let e : c.wide-in-loop-v.result ≡ role_num set =
     counted c.args.counts.now c.wide.ensures.0 c.wide-in-loop-v.ensures.0
-    (c.requires.2 c.loop-v.v c.loop-v-test.true) in
+    (c.requires.1 c.loop-v.v c.loop-v-test.true) in
     omega arith

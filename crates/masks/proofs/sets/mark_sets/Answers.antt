@@ -5,7 +5,7 @@ use Rattle.masks.proofs.sets.mark_sets.Goals.{then-w-wide-gt0, else-w-wide-gt0}
 
 pub loop-r-init : goal.loop-r-init
 loop-r-init c = λ roles start h.
-    marked_none c.args.own roles c.args.w start c.args.end c.args.sets.now c.requires.1
+    marked_none c.args.own roles c.args.w start c.args.end c.args.sets.now c.told-sets
     (c.within_reach.ensures roles start h)
 
 pub loop-r-preserved : goal.loop-r-preserved
@@ -23,4 +23,4 @@ loop-r-preserved c = λ roles start h.
 pub returns : goal.returns
 returns c = λ roles start h.
     let e : c.loop-r.r ≡ c.args.end = omega arith in
-    marked_all c.args.own roles c.args.w start c.args.end c.requires.0 (rw e at (c.loop-r.invariant roles start h))
+    marked_all c.args.own roles c.args.w start c.args.end c.requires (rw e at (c.loop-r.invariant roles start h))

@@ -9,4 +9,4 @@ overflow_cast-count c =
 
 pub returns : goal.returns
 returns c =
-    counted_all c.args.counts.now c.loop-v.count-items c.requires.0 c.requires.1 (omega arith) c.loop-v.invariant
+    counted_all c.args.counts.now c.loop-v.count-items c.told-counts c.requires (omega arith) c.loop-v.invariant

@@ -7,7 +7,7 @@ use Rattle.masks.proofs.sets.sets_for.Goals as goal
 
 pub returns-then-any : goal.returns-then-any
 returns-then-any c =
-    sets_fitted c.args.asked.now.numbers c.sets_below.ensures
+    sets_fitted c.args.asked.now.numbers (search rules) c.sets_below.ensures
     (c.mark_sets.ensures c.args.asked.now.roles c.args.start c.without_role.ensures) c.fit_numbers.ensures
 
 pub returns-else-any : goal.returns-else-any
