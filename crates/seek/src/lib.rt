@@ -149,9 +149,9 @@ pub fn search<const ROWS: usize, const PLACES: usize>(
         × ((sets : List ℕ) → NextEnds sets tables.old.nexts →
         AnsweredWith sets weighing.w weighing.placed (by_masks rows.now masks.now.sums masks.now.sets) last result) }
 {
-    // Each level changes the tables, so these are turns of a loop and no chain.
-    for n in 0..last + 1 {
-        if let Some(at) = try_level(tables, masks, rows[n], n, weighing) {
+    // No `find_map`: each turn changes the tables.
+    for (n, row) in rows[..=last].iter().enumerate() {
+        if let Some(at) = try_level(tables, masks, *row, n, weighing) {
             let group = back::group(&tables.ends, &tables.from, n, at);
             return Some(Found { n, group });
         }
