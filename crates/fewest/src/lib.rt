@@ -8,6 +8,7 @@ ghost use Rattle.seek.specs.Answer.{AnsweredWith};
 ghost use Rattle.fewest.specs.Search.{holds_with, LastRow, Seeking};
 
 use masks::Placed;
+use multisets::Weighing;
 use multisets::levels::LevelTables;
 use reader::bytes;
 use seek::{Found, Masks};
@@ -46,13 +47,10 @@ pub fn fewest<const ROWS: usize, const PLACES: usize>(
     }
     let rows = masks::masks_for(k, own, w, weighed, start, counts, masks);
     let last = last_row(&rows)?;
-    seek::search(
-        tables,
-        masks,
-        &rows,
-        last,
-        bytes::wide(weighed.end),
+    let weighing = Weighing {
         w,
-        start.sum as u8,
-    )
+        end: bytes::wide(weighed.end),
+        placed: start.sum as u8,
+    };
+    seek::search(tables, masks, &rows, last, weighing)
 }

@@ -1,7 +1,8 @@
 -- The tables of a search, made level by level: what is known of the multisets of at most n roles below d.
 use Rattle.std.specs.Prelude.{ℕ, suc, ◌+◌, ◌*◌, ◌<◌, ◌≤◌, ◌≡◌, List, length, get_or}
 use Rattle.multisets.specs.Ranks.{starts, first, more}
-use Rattle.multisets.specs.Values.{Held, set_at}
+use Rattle.multisets.specs.declared.Weighing.{Weighing}
+use Rattle.multisets.specs.Values.{Held, sum_at, set_at}
 use Rattle.multisets.specs.Ends.{NextTable, Filled}
 
 -- the eight numbers from `at` on: how far the rank of multiset m of n with each role more lies behind m
@@ -51,6 +52,10 @@ pub record Levels (d n : ℕ) (nexts t ends from roles : List ℕ) : Type 0 wher
   pub most : n ≤ 6
   pub grown : Grown d nexts (first d n) t ends from
   pub held : Held d d set_at roles (first d (suc n))
+
+-- the table holds the sums that a search weighs by, of the multisets of roles below its end that stand before place k
+abbrev pub Summed : ℕ → Weighing → List ℕ → ℕ → Type 0
+Summed d weighing t k = Held d weighing.end (sum_at weighing.w weighing.placed) t k
 
 -- tables with room for all levels, with no end yet
 pub record Blank (d : ℕ) (t ends from roles : List ℕ) : Type 0 where

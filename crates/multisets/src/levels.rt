@@ -2,10 +2,10 @@
 ghost use Rattle.std.specs.Prelude.{◌≡◌, ℕ, suc, ◌+◌, ◌*◌, ◌≤◌};
 ghost use Rattle.multisets.specs.Ranks.{first};
 ghost use Rattle.multisets.specs.Ends.{NextTable};
-ghost use Rattle.multisets.specs.Values.{Held, Light, sum_at};
+ghost use Rattle.multisets.specs.Levels.{Summed};
 ghost use Rattle.multisets.specs.Laid.{Laid, Laid-prop};
 
-use crate::{growth, values};
+use crate::{Weighing, growth, values};
 
 // Inner: what is known of the multisets of at most six roles below d, for users by their next ends, up to the level of
 // `known` roles; the sums are those of the search under way. With room for ROWS numbers of rows, and for PLACES
@@ -73,14 +73,14 @@ impl<const ROWS: usize, const PLACES: usize> LevelTables<ROWS, PLACES> {
         }
     }
 
-    // Inner: the sums of the multisets of n roles below `end`, with what is placed before, where those of fewer are
+    // Inner: the sums of the multisets of n roles below the end, with what is placed before, where those of fewer are
     // made.
-    pub fn sum_level(&mut self, end: usize, n: usize, w: [u8; 8], placed: u8)
-        requires { (n ≤ 6) × (end ≤ self.old.d) × Light w × (placed + n * 40 ≤ 255)
-            × Held self.old.d end (sum_at w placed) self.old.sums (first self.old.d n) }
-        ensures { Held self.old.d end (sum_at w placed) self.new.sums (first self.old.d (suc n))
+    pub fn sum_level(&mut self, n: usize, weighing: Weighing)
+        requires { (n ≤ 6) × (weighing.end ≤ self.old.d) × (weighing.placed + n * 40 ≤ 255)
+            × Summed self.old.d weighing self.old.sums (first self.old.d n) }
+        ensures { Summed self.old.d weighing self.new.sums (first self.old.d (suc n))
             × (self.new.d ≡ self.old.d) × (self.new.nexts ≡ self.old.nexts) }
     {
-        values::sum_level(self.d, end, n, w, placed, &mut self.sums);
+        values::sum_level(self.d, n, weighing, &mut self.sums);
     }
 }

@@ -1,8 +1,10 @@
 // The sums of roles' weights and the sets of roles, by multiset.
 ghost use Rattle.std.specs.Prelude.{◌≡◌, ℕ, suc, ◌+◌, ◌*◌, ◌^◌, ◌≤◌, ◌<◌, length, get_or};
 ghost use Rattle.multisets.specs.Ranks.{first};
-ghost use Rattle.multisets.specs.Values.{Held, Light, sum_at, set_at, Steps, Written};
+ghost use Rattle.multisets.specs.Values.{Held, set_at, Steps, Written};
+ghost use Rattle.multisets.specs.Levels.{Summed};
 
+use crate::Weighing;
 use crate::ranks::{first_in, start_in};
 
 // Writes from `to` on what `step` makes of the `count` numbers from `from` on. They stand in one table, so a range
@@ -40,18 +42,18 @@ fn next_level<F: Fn(u8, usize) -> u8>(d: usize, end: usize, n: usize, t: &mut [u
     }
 }
 
-// Inner: the sums of the multisets of n roles below `end`, with what is placed before, where those of fewer are made.
+// Inner: the sums of the multisets of n roles below the end, with what is placed before, where those of fewer are made.
 // The sum of no role is what is placed before.
-pub fn sum_level(d: usize, end: usize, n: usize, w: [u8; 8], placed: u8, t: &mut [u8])
-    requires { (n ≤ 6) × (d ≤ 8) × (end ≤ d) × Light w × (placed + n * 40 ≤ 255)
-        × Held d end (sum_at w placed) t.old (first d n) }
-    ensures { Held d end (sum_at w placed) t.new (first d (suc n)) }
+pub fn sum_level(d: usize, n: usize, weighing: Weighing, t: &mut [u8])
+    requires { (n ≤ 6) × (d ≤ 8) × (weighing.end ≤ d) × (weighing.placed + n * 40 ≤ 255)
+        × Summed d weighing t.old (first d n) }
+    ensures { Summed d weighing t.new (first d (suc n)) }
 {
     if n == 0 {
-        t[0] = placed;
+        t[0] = weighing.placed;
         return;
     }
-    next_level(d, end, n - 1, t, |sum, r| sum + w[r]);
+    next_level(d, weighing.end, n - 1, t, |sum, r| sum + weighing.w[r]);
 }
 
 // Inner: the sets of the multisets of n + 1 roles, from those of n.

@@ -84,9 +84,7 @@ impl Page<'_> {
         requires { Parts parts.now n × HasRoom self.old (lines_text parts.now n) }
         ensures { Put (lines_text parts.now n) self.old self.new }
     {
-        // By number: a line begins with it, and the parts are told by it.
-        for p in 0..n {
-            let part = &parts[13 * usize::from(p)..];
+        for (p, part) in (0..n).zip(parts.chunks_exact(13)) {
             let k = part[0];
             self.put_line(p, k, &part[1..1 + 2 * usize::from(k)]);
         }

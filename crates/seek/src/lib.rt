@@ -4,14 +4,14 @@
 ghost use Rattle.std.specs.Prelude.{◌≡◌, List, ℕ, suc, ◌+◌, ◌*◌, ◌≤◌};
 ghost use Rattle.multisets.specs.Ranks.{first};
 ghost use Rattle.multisets.specs.Ends.{NextEnds};
-ghost use Rattle.multisets.specs.Values.{Held, sum_at};
+ghost use Rattle.multisets.specs.Levels.{Summed};
 ghost use Rattle.seek.specs.Search.{met_by, by_masks, SomeMet, FoundAt, Ready, TriedWith};
 ghost use Rattle.seek.specs.Level.{Roomy, meets};
 ghost use Rattle.seek.specs.Answer.{AnsweredWith};
 
-use multisets::back;
 use multisets::levels::LevelTables;
 use multisets::ranks::{first_in, start_in};
+use multisets::{Weighing, back};
 
 // Inner: the clauses that each sum of weights and each set of roles meets, as bits.
 #[derive(Drop)]
@@ -92,33 +92,31 @@ impl Level<'_> {
     }
 }
 
-// A place of the multisets of n roles below `end` that meets the row; their sums are made, and the level if it isn't
+// A place of the multisets of n roles below the end that meets the row; their sums are made, and the level if it isn't
 // yet.
 fn try_level<const ROWS: usize, const PLACES: usize>(
     tables: &mut LevelTables<ROWS, PLACES>,
     masks: &Masks,
     row: u64,
-    end: usize,
     n: usize,
-    w: [u8; 8],
-    placed: u8,
+    weighing: Weighing,
 ) -> Option<usize>
-    requires { (n ≤ 6) × (placed + n * 40 ≤ 255)
-        × Ready tables.old.d end w tables.old.nexts masks.now.sums masks.now.sets
-        × Held tables.old.d end (sum_at w placed) tables.old.sums (first tables.old.d n) }
+    requires { (n ≤ 6) × (weighing.placed + n * 40 ≤ 255)
+        × Ready tables.old.d weighing.end weighing.w tables.old.nexts masks.now.sums masks.now.sets
+        × Summed tables.old.d weighing tables.old.sums (first tables.old.d n) }
     ensures { (tables.new.d ≡ tables.old.d) × (tables.new.nexts ≡ tables.old.nexts)
-        × Held tables.old.d end (sum_at w placed) tables.new.sums (first tables.old.d (suc n))
+        × Summed tables.old.d weighing tables.new.sums (first tables.old.d (suc n))
         × ((sets : List ℕ) → NextEnds sets tables.old.nexts →
-        TriedWith sets w placed tables.old.d (met_by row masks.now.sums masks.now.sets) n result
+        TriedWith sets weighing.w weighing.placed tables.old.d (met_by row masks.now.sums masks.now.sets) n result
         tables.new.ends tables.new.from) }
 {
-    tables.sum_level(end, n, w, placed);
+    tables.sum_level(n, weighing);
     if row == 0 {
         return None;
     }
     tables.reach(n);
     let first = first_in(tables.d, n);
-    let last = first + start_in(n, end);
+    let last = first + start_in(n, weighing.end);
     let level = Level {
         ends: &tables.ends,
         sums: &tables.sums,
@@ -136,26 +134,24 @@ pub struct Found {
     pub group: [u8; 12],
 }
 
-// Inner: the fewest entries, at most `last`, that meet the condition told by the masks, where entries of the sum
-// `placed` are placed before; among the tables' roles, of which those from `end` on have no weight.
+// Inner: the fewest entries, at most `last`, that with those placed before meet the condition told by the masks; among
+// the tables' roles.
 pub fn search<const ROWS: usize, const PLACES: usize>(
     tables: &mut LevelTables<ROWS, PLACES>,
     masks: &Masks,
     rows: &[u64; 7],
     last: usize,
-    end: usize,
-    w: [u8; 8],
-    placed: u8,
+    weighing: Weighing,
 ) -> Option<Found>
-    requires { (last ≤ 6) × (placed + last * 40 ≤ 255)
-        × Ready tables.old.d end w tables.old.nexts masks.now.sums masks.now.sets }
+    requires { (last ≤ 6) × (weighing.placed + last * 40 ≤ 255)
+        × Ready tables.old.d weighing.end weighing.w tables.old.nexts masks.now.sums masks.now.sets }
     ensures { (tables.new.d ≡ tables.old.d) × (tables.new.nexts ≡ tables.old.nexts)
         × ((sets : List ℕ) → NextEnds sets tables.old.nexts →
-        AnsweredWith sets w placed (by_masks rows.now masks.now.sums masks.now.sets) last result) }
+        AnsweredWith sets weighing.w weighing.placed (by_masks rows.now masks.now.sums masks.now.sets) last result) }
 {
-    // Each level changes the tables, so these are turns of a loop and no chain.
-    for n in 0..last + 1 {
-        if let Some(at) = try_level(tables, masks, rows[n], end, n, w, placed) {
+    // No `find_map`: each turn changes the tables.
+    for (n, row) in rows[..=last].iter().enumerate() {
+        if let Some(at) = try_level(tables, masks, *row, n, weighing) {
             let group = back::group(&tables.ends, &tables.from, n, at);
             return Some(Found { n, group });
         }

@@ -1,9 +1,10 @@
 -- `search` meets its contract: no level so far has a place that meets its row; the first that has one gives the group.
 use Rattle.std.proofs.Common.{ℕ, ◌-◌, ◌*◌, ◌<◌, ◌≤◌, Bool, List, ◌++◌, Option, Some, ◌≡◌, refl, ◌∙◌}
-use Rattle.std.proofs.Common.{length, replicate, arith}
+use Rattle.std.proofs.Common.{length, take, replicate, arith}
 use mathlib.Core.Logic.{⊎_elim}
 use borrow.Author.Tests.{ltb-true, ltb-false}
 use lib.Dec.{ltb}
+use Rattle.std.proofs.lemmas.List.{get_or-take}
 use Rattle.folds.proofs.Bools.{met_or_not}
 use Rattle.multisets.specs.Ranks.{first}
 use Rattle.multisets.specs.Rising.{Entry, bytes_of}
@@ -20,12 +21,14 @@ use Rattle.seek.proofs.search.Goals as goal
 no_sums : {d end : ℕ} {value : ℕ → ℕ → ℕ} {t : List ℕ} → first d 7 ≤ length t → Held d end value t (first d 0)
 no_sums {d} room = record { room = room; each = λ n m few some l. absurd (omega (arith, first_0 d)) }
 
--- a level's try, of the tables as they were handed in
-tried_here : (condition : ℕ → ℕ → Bool) {d d₁ n : ℕ} {w nexts nexts₁ ends from : List ℕ} {placed : ℕ} {o : Option ℕ} →
-    d₁ ≡ d → nexts₁ ≡ nexts →
-    ((sets : List ℕ) → NextEnds sets nexts₁ → TriedWith sets w placed d₁ condition n o ends from) →
-    (sets : List ℕ) → NextEnds sets nexts → TriedWith sets w placed d condition n o ends from
-tried_here condition same_d same_nexts tried = rw (same_d, same_nexts) at tried
+-- a level's try, of the tables and the rows as they were handed in
+tried_here : (rows by_sum by_set : List ℕ) {d d₁ n count placed : ℕ} {w nexts nexts₁ ends from : List ℕ}
+    {o : Option ℕ} → n < count → d₁ ≡ d → nexts₁ ≡ nexts →
+    ((sets : List ℕ) → NextEnds sets nexts₁ →
+    TriedWith sets w placed d₁ (by_masks (take count rows) by_sum by_set n) n o ends from) →
+    (sets : List ℕ) → NextEnds sets nexts → TriedWith sets w placed d (by_masks rows by_sum by_set n) n o ends from
+tried_here rows by_sum by_set {n = n} {count} low same_d same_nexts tried =
+    rw (same_d, same_nexts, get_or-take count rows n 0 low) at tried
 
 -- the way back from the place found
 back_way : (condition : ℕ → ℕ → Bool) {d d₁ end k n at placed : ℕ}
@@ -89,7 +92,8 @@ pub group-group-requires : goal.group-group-requires
 group-group-requires g c =
     let i = c.loop-n.invariant in
     let (d, nexts, added, tried) = c.in-Some.ensures in
-    let one = tried_here _ i.d i.nexts tried in
+    let m = c.args.masks.now in
+    let one = tried_here c.args.rows.now m.sums m.sets (omega arith) i.d i.nexts tried in
     (omega arith, back_way _ one (d ∙ i.d) c.requires.2 c.try_level.new.tables.laid)
 
 pub returns-in-Some : goal.returns-in-Some
@@ -97,7 +101,7 @@ returns-in-Some g c =
     let i = c.loop-n.invariant in
     let m = c.args.masks.now in
     let (d, nexts, added, tried) = c.in-Some.ensures in
-    let one = tried_here _ i.d i.nexts tried in
+    let one = tried_here c.args.rows.now m.sums m.sets (omega arith) i.d i.nexts tried in
     let low : c.loop-n.n ≤ c.args.last = omega arith in
     let found = answer (by_masks c.args.rows.now m.sums m.sets) one low c.requires.0 i.none c.group-group.ensures in
     (d ∙ i.d, nexts ∙ i.nexts, found)

@@ -3,7 +3,7 @@ use Rattle.std.proofs.Common.{◌<◌, ◌≡◌, List, ℕ, length}
 use Rattle.multisets.specs.Ranks.{first}
 use Rattle.multisets.specs.Rising.{Entry}
 use Rattle.multisets.specs.Ends.{NextEnds}
-use Rattle.multisets.specs.Values.{Held, sum_at}
+use Rattle.multisets.specs.Levels.{Summed}
 use Rattle.seek.specs.Search.{by_masks, Meets}
 use Rattle.seek.proofs.search.Given as goal
 
@@ -11,7 +11,7 @@ abbrev pub invariant-loop-n : goal.invariant-loop-n
 invariant-loop-n g l = record {
   d : l.tables.d ≡ l.initial.tables.d;
   nexts : l.tables.nexts ≡ l.initial.tables.nexts;
-  added : Held l.initial.tables.d l.end (sum_at l.w l.placed) l.tables.sums (first l.initial.tables.d l.n);
+  added : Summed l.initial.tables.d l.weighing l.tables.sums (first l.initial.tables.d l.n);
   none : (sets : List ℕ) → NextEnds sets l.initial.tables.nexts → (h : List Entry) → length h < l.n →
-      Meets sets l.w l.placed (by_masks l.rows l.masks.sums l.masks.sets (length h)) h → ⊥;
+      Meets sets l.weighing.w l.weighing.placed (by_masks l.rows l.masks.sums l.masks.sets (length h)) h → ⊥;
 }

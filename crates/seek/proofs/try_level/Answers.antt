@@ -76,7 +76,7 @@ meeting-requires g c =
     let p = c.requires in
     let (added, d₁, nexts₁) = c.sum_level.ensures in
     let (known, d₂, nexts₂, sums) = c.reach.ensures in
-    asked c.args.placed p.0 known p.2 added c.reach.new.self.laid (d₂ ∙ d₁) (nexts₂ ∙ nexts₁) sums
+    asked c.args.weighing.placed p.0 known p.2 added c.reach.new.self.laid (d₂ ∙ d₁) (nexts₂ ∙ nexts₁) sums
     c.first_in-first.ensures.0 c.start_in.ensures.0
 
 pub returns : goal.returns
@@ -89,7 +89,7 @@ returns g c =
     let nexts = nexts₂ ∙ nexts₁ in (
       d,
       nexts,
-      added c.args.placed p.0 known p.2 added₁ laid d nexts sums,
-      tried c.args.placed p.0 known p.2 added₁ laid d nexts sums c.first_in-first.ensures.0 c.start_in.ensures.0
+      added c.args.weighing.placed p.0 known p.2 added₁ laid d nexts sums,
+      tried c.args.weighing.placed p.0 known p.2 added₁ laid d nexts sums c.first_in-first.ensures.0 c.start_in.ensures.0
           c.args.row c.meeting.ensures,
     )

@@ -32,27 +32,27 @@ module _ (n : ℕ) {end r j : ℕ} {w : List ℕ} (placed : ℕ) (light : Light 
   more = omega (arith, total_block n r j (omega arith) some (λ k. get_or w k 0))
 
 pub bounds-t-0 : goal.bounds-t-0
-bounds-t-0 c = let some = room c.args.w c.args.placed _ _ c.requires.5 in search rules
+bounds-t-0 c = let some = room c.args.weighing.w c.args.weighing.placed _ _ c.requires.4 in search rules
 
 pub returns-then-n-eq0 : goal.returns-then-n-eq0
-returns-then-n-eq0 c = begun c.args.w c.args.placed _ _ c.requires.5 c.if-n-eq0.true c.requires.2
+returns-then-n-eq0 c = begun c.args.weighing.w c.args.weighing.placed _ _ c.requires.4 c.if-n-eq0.true c.requires.2
 
 pub next_level-requires : goal.next_level-requires
 next_level-requires c =
     let p = c.requires in
-    let placed = c.args.placed in
+    let placed = c.args.weighing.placed in
     let n : ℕ = c.args.n - 1 in
     let up : suc n ≡ c.args.n = omega (arith, c.if-n-eq0.false) in
-    let few : c.args.end ≤ 8 = omega arith in (
+    let few : c.args.weighing.end ≤ 8 = omega arith in (
       omega (arith, p.0),
       p.1,
       p.2,
       (
-        sum_at c.args.w placed,
-        rw up p.5,
+        sum_at c.args.weighing.w placed,
+        rw up p.4,
         record {
-          asks = λ r j role some. let s = small n placed p.3 few role some (rw up p.4) in search rules;
-          makes = λ r j y role some called. let e = more n placed p.3 few role some in search rules;
+          asks = λ r j role some. let s = small n placed c.args.weighing.light few role some (rw up p.3) in search rules;
+          makes = λ r j y role some called. let e = more n placed c.args.weighing.light few role some in search rules;
         },
       ),
     )
@@ -60,11 +60,11 @@ next_level-requires c =
 pub returns : goal.returns
 returns c =
     let p = c.requires in
-    let placed = c.args.placed in
+    let placed = c.args.weighing.placed in
     let n : ℕ = c.args.n - 1 in
     let up : suc n ≡ c.args.n = omega (arith, c.if-n-eq0.false) in
-    let few : c.args.end ≤ 8 = omega arith in
-    rw up at (c.next_level.ensures (sum_at c.args.w placed) (rw up p.5) (record {
-      asks = λ r j role some. let s = small n placed p.3 few role some (rw up p.4) in search rules;
-      makes = λ r j y role some called. let e = more n placed p.3 few role some in search rules;
+    let few : c.args.weighing.end ≤ 8 = omega arith in
+    rw up at (c.next_level.ensures (sum_at c.args.weighing.w placed) (rw up p.4) (record {
+      asks = λ r j role some. let s = small n placed c.args.weighing.light few role some (rw up p.3) in search rules;
+      makes = λ r j y role some called. let e = more n placed c.args.weighing.light few role some in search rules;
     }))
