@@ -1,6 +1,6 @@
 -- `search` meets its contract: no level so far has a place that meets its row; the first that has one gives the group.
 use Rattle.std.proofs.Common.{ℕ, ◌-◌, ◌*◌, ◌<◌, ◌≤◌, Bool, List, ◌++◌, Option, Some, ◌≡◌, refl, ◌∙◌}
-use Rattle.std.proofs.Common.{length, take, replicate, arith}
+use Rattle.std.proofs.Common.{length, take, replicate, arith, rules}
 use mathlib.Core.Logic.{⊎_elim}
 use borrow.Author.Tests.{ltb-true, ltb-false}
 use lib.Dec.{ltb}
@@ -87,6 +87,14 @@ loop-n-init g c = record {
   added = no_sums c.args.tables.now.laid.room;
   none = λ sets next h l m. absurd (omega arith);
 }
+
+pub loop-n-preserved : goal.loop-n-preserved
+loop-n-preserved g c =
+    let i = c.loop-n.invariant in
+    let m = c.args.masks.now in
+    let (d, nexts, added, tried) = c.in_default.ensures in
+    let one = tried_here c.args.rows.now m.sums m.sets (omega arith) i.d i.nexts tried in
+    search rules
 
 pub group-group-requires : goal.group-group-requires
 group-group-requires g c =

@@ -90,6 +90,6 @@ returns g c =
       d,
       nexts,
       added c.args.weighing.placed p.0 known p.2 added₁ laid d nexts sums,
-      tried c.args.weighing.placed p.0 known p.2 added₁ laid d nexts sums c.first_in-first.ensures.0 c.start_in.ensures.0
-          c.args.row c.meeting.ensures,
+      tried c.args.weighing.placed p.0 known p.2 added₁ laid d nexts sums c.first_in-first.ensures.0
+          c.start_in.ensures.0 c.args.row c.meeting.ensures,
     )

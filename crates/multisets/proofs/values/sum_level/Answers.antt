@@ -41,6 +41,7 @@ pub next_level-requires : goal.next_level-requires
 next_level-requires c =
     let p = c.requires in
     let placed = c.args.weighing.placed in
+    let light = c.args.weighing.light in
     let n : ℕ = c.args.n - 1 in
     let up : suc n ≡ c.args.n = omega (arith, c.if-n-eq0.false) in
     let few : c.args.weighing.end ≤ 8 = omega arith in (
@@ -51,8 +52,8 @@ next_level-requires c =
         sum_at c.args.weighing.w placed,
         rw up p.4,
         record {
-          asks = λ r j role some. let s = small n placed c.args.weighing.light few role some (rw up p.3) in search rules;
-          makes = λ r j y role some called. let e = more n placed c.args.weighing.light few role some in search rules;
+          asks = λ r j role some. let s = small n placed light few role some (rw up p.3) in search rules;
+          makes = λ r j y role some called. let e = more n placed light few role some in search rules;
         },
       ),
     )
@@ -61,10 +62,11 @@ pub returns : goal.returns
 returns c =
     let p = c.requires in
     let placed = c.args.weighing.placed in
+    let light = c.args.weighing.light in
     let n : ℕ = c.args.n - 1 in
     let up : suc n ≡ c.args.n = omega (arith, c.if-n-eq0.false) in
     let few : c.args.weighing.end ≤ 8 = omega arith in
     rw up at (c.next_level.ensures (sum_at c.args.weighing.w placed) (rw up p.4) (record {
-      asks = λ r j role some. let s = small n placed c.args.weighing.light few role some (rw up p.3) in search rules;
-      makes = λ r j y role some called. let e = more n placed c.args.weighing.light few role some in search rules;
+      asks = λ r j role some. let s = small n placed light few role some (rw up p.3) in search rules;
+      makes = λ r j y role some called. let e = more n placed light few role some in search rules;
     }))
