@@ -1,23 +1,28 @@
 // What the weights of a permission's roles tell at once.
 ghost use Rattle.std.specs.Prelude.{◌≡◌, ℕ, ◌+◌, ◌≤◌, ◌<◌, List, get_or};
-ghost use Rattle.fewest.specs.Search.{WeighedBelow};
+ghost use Rattle.fewest.specs.Search.{WeighedBelow, WeighedSome};
 
 use masks::Weighed;
 use reader::bytes;
 
-// What the roles before role r weigh, and role r, of weight x.
-fn with_role(s: Weighed, x: usize, r: u8) -> Weighed
+// What the roles before role r weigh, and role r, of weight x; None where none of them has weight.
+fn with_role(before: Option<Weighed>, x: usize, r: u8) -> Option<Weighed>
     requires { (r < 8) × (x ≤ 40) }
-    ensures { (w : List ℕ) → x ≡ get_or w r 0 → WeighedBelow w r s → WeighedBelow w (r + 1) result }
+    ensures { (w : List ℕ) → x ≡ get_or w r 0 → WeighedSome w r before → WeighedSome w (r + 1) result }
 {
     if x == 0 {
-        return s;
+        return before;
     }
-    Weighed {
-        light: if s.light == 0 { x } else { s.light.min(x) },
+    let s = before.unwrap_or(Weighed {
+        light: x,
+        heavy: x,
+        end: r,
+    });
+    Some(Weighed {
+        light: s.light.min(x),
         heavy: s.heavy.max(x),
         end: r + 1,
-    }
+    })
 }
 
 // Inner: what all roles weigh.
@@ -30,5 +35,7 @@ pub fn weighed(w: [u8; 8]) -> Weighed
         heavy: 0,
         end: 0,
     };
-    (0..8u8).fold(none, |s, r| with_role(s, bytes::wide(w[bytes::wide(r)]), r))
+    (0..8u8)
+        .fold(None, |s, r| with_role(s, bytes::wide(w[bytes::wide(r)]), r))
+        .unwrap_or(none)
 }

@@ -17,7 +17,8 @@ pub struct Placed {
     pub roles: u8,
 }
 
-// What the roles weigh: the least and the largest weight, and one past the last role that has weight.
+// What the roles weigh: the least and the largest weight, and one past the last role that has weight. All are 0 where
+// none has weight, and no Option: what others add to entries placed before is then from 0 to 0.
 #[derive(Clone, Copy)]
 pub struct Weighed {
     pub light: usize,
