@@ -19,7 +19,7 @@ use Rattle.weights.specs.Acting.{may_act}
 use Rattle.weights.specs.Setting.{Juniors}
 use Rattle.decision.specs.Groups.{entry_count, entry_role}
 use Rattle.decision.specs.Decision.{members_of}
-use Rattle.decision.proofs.Granting.{Members, members_of_lem, short_enough, role_below}
+use Rattle.decision.proofs.Granting.{Members, members_of_lem, members_same, short_enough, role_below}
 use Rattle.shift.specs.Counting.{entries_at_or_above}
 use Rattle.shift.specs.Shift.{distance, bound_of, change_refused, bound_refusal}
 use Rattle.shift.proofs.Laws.{touched_by, change_allowed}
@@ -32,14 +32,10 @@ record Known (b g : List ℕ) : Type 0 where
   few : length g ≤ 12
   low : (k : ℕ) → k < entry_count g → entry_role g k < 8
 
--- the base of who may act is the base
-moved : (g : List ℕ) {a b : List ℕ} {n : ℕ} → a ≡ b → n ≡ members_of a g → n ≡ members_of b g
-moved g same is = is ∙ ap (λ b. members_of b g) same
-
 known : {a b g : List ℕ} → 0 ≡ refusal_of b → a ≡ b → 0 ≡ members_of a g → Known b g
 known {b = b} {g = g} checked same fine =
     let ok = sym checked in
-    let none = sym (moved g same fine) in
+    let none = sym (members_same g same fine) in
     let m : Members (user_count b) (role_count b) (may_act b) g = members_of_lem _ _ _ g none in
     record {
       ok = ok;
@@ -100,7 +96,7 @@ returns-in_err-base c =
 pub returns-in_err-members_refusal : goal.returns-in_err-members_refusal
 returns-in_err-members_refusal c =
     let e = c.in_ok-base.ensures in
-    let is = moved c.args.group.now (c.of-acting.ensures ∙ e.same) c.in_err-members_refusal.ensures in
+    let is = members_same c.args.group.now (c.of-acting.ensures ∙ e.same) c.in_err-members_refusal.ensures in
     carried_on _ _ c.from_residual-in_err-members_refusal.ensures.1
     ∙ answered_refused _ _ (by_members _ _ _ _ (sym e.number) is (refusal_pos _)) (refusal_pos _)
 
