@@ -1,7 +1,7 @@
 -- The law of granting, and what the decision's steps know of a group.
 use Prim.Native.Nat.{ℕ, ◌*◌, ◌%◌, ◌<◌, ◌≤◌}
 use mathlib.Core.Bool.{Bool, true, false, not, cond}
-use mathlib.Core.Path.{◌≡◌, refl, ap}
+use mathlib.Core.Path.{◌≡◌, refl, ap, ◌∙◌}
 use mathlib.Core.Logic.{◌↔◌}
 use mathlib.Core.List.{List}
 use native.Mathlib.Omega.{arith}
@@ -24,7 +24,7 @@ use Rattle.weights.specs.Setting.{AreWeights}
 use Rattle.decision.specs.Groups.{entry_count, entry_user, entry_role, sum_of, acted_in, roles_of}
 use Rattle.decision.specs.Groups.{length_refused, unknown_at, some_unknown, stands_before, some_twice, some_ineligible}
 use Rattle.decision.specs.Groups.{some_weightless, members_refusal, group_refusal}
-use Rattle.decision.specs.Decision.{group_decision, headed, decision_by}
+use Rattle.decision.specs.Decision.{members_of, group_decision, headed, decision_by}
 use Rattle.decision.specs.Conditions.{role_num, permission_holds}
 use Rattle.decision.specs.Granting.{Granted, GrantedBy}
 
@@ -71,6 +71,10 @@ module _ (rules b : List ℕ) (at : Context) (p : ℕ) (g : List ℕ) where
       permission_holds k p n sum set ≡
       permission_holds (table_of b clauses) p (entry_count g) (sum_of (λ r. weight rules b at r p) g) (roles_of g)
   condition_same k n sum set e f h i = rw (e, f, h, i)
+
+-- what is asked of who may act is asked of the base
+pub members_same : (g : List ℕ) {a b : List ℕ} {n : ℕ} → a ≡ b → n ≡ members_of a g → n ≡ members_of b g
+members_same g same is = is ∙ ap (λ b. members_of b g) same
 
 -- a group that none of refusals 12 to 15 applies to
 pub record Members (U R : ℕ) (may : ℕ → ℕ → Bool) (g : List ℕ) : Type 0 where

@@ -45,8 +45,8 @@ impl From<Refusal> for Unopened {
 pub fn open(base: &[u8], permission: u32) -> Result<Sheet, Unopened>
     ensures { opening_outcome result ≡ opened base.now permission }
 {
-    reader::check(base)?;
-    if u32::from(reader::trailer::permission_count(base)) <= permission {
+    let base = reader::accept(base)?;
+    if u32::from(base.permission_count()) <= permission {
         return Err(Refusal::Permission.into());
     }
     Ok(Sheet::unsigned(permission as u8))

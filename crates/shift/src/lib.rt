@@ -10,21 +10,22 @@ ghost use Rattle.shift.specs.Shift.{distance, change_refused, bound_answer};
 ghost use Rattle.shift.specs.Counting.{at_or_above, entries_at_or_above};
 
 use decision::groups::Entry;
-use reader::{Refusal, Refused};
+use reader::{Refusal, Refused, Table};
+use weights::acting::Acting;
 
 // Entry point: by how much, at most, the group's sum of weights shifts where the policy gets this weight; refusals 1 to
 // 9, 12 to 15, then 21. A refusal carries 0.
 pub fn bound(base: &[u8], policy: u32, weight: u32, group: &[u8]) -> Result<u32, Refused>
     ensures { answer_from result ≡ bound_answer base.now policy weight group.now }
 {
-    reader::check(base)?;
-    let juniors = weights::juniors_of_base(base);
-    decision::members_refusal(base, juniors, group)?;
-    let a = reader::trailer::part(base, reader::Table::Policies);
+    let base = reader::accept(base)?;
+    let acting = Acting::of(&base);
+    decision::members_refusal(&acting, group)?;
+    let a = base.part(Table::Policies);
     if change_refused(a.len() / 8, policy, weight) {
         return Err(Refusal::Change.into());
     }
-    Ok(bound_of(a, juniors, policy as usize, weight as u8, group))
+    Ok(bound_of(a, acting.juniors(), policy as usize, weight as u8, group))
 }
 
 // Refusal 21, with so many policies.

@@ -34,6 +34,20 @@ impl<'a> Acting<'a> {
         Acting { base, juniors }
     }
 
+    // Inner: who may act, by the base's own hierarchy.
+    pub fn of(base: &'a Base<'a>) -> Acting<'a>
+        ensures { result ≡ base.now }
+    {
+        Acting::by(base, crate::juniors_of_base(base))
+    }
+
+    // Inner: the juniors of each role.
+    pub fn juniors(&self) -> [u8; 8]
+        ensures { Juniors (table_of self.now hierarchy) result }
+    {
+        self.juniors
+    }
+
     // Inner: R.
     pub fn role_count(&self) -> u8
         ensures { (result ≡ role_count self.now) × (result ≤ 8) }

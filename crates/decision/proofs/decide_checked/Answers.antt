@@ -1,7 +1,7 @@
 -- `decide_checked` meets its contract: 12 to 15 by `members_refusal`, then 16 and 17 by the weights.
 use Rattle.std.proofs.Common.{ℕ, Bool, true, false, List, length, get_or, ◌≡◌, ◌<◌, ◌≤◌}
 use mathlib.Core.Bool.{cond}
-use mathlib.Core.Path.{ap, sym, ◌∙◌}
+use mathlib.Core.Path.{sym, ◌∙◌}
 use native.Mathlib.Nat.{lt_of_lt_of_le}
 use Rattle.folds.proofs.Bools.{refused, unrefused}
 use Rattle.reader.specs.Tables.{clauses, role_count, table_of, user_count}
@@ -18,7 +18,7 @@ use Rattle.decision.specs.Conditions.{permission_holds}
 use Rattle.decision.specs.Groups.{entry_count, entry_role, sum_of, roles_of, some_weightless, group_refusal}
 use Rattle.decision.specs.Decision.{members_of, group_decision}
 use Rattle.decision.proofs.Granting.{Members, members_of_lem, role_below, short_enough}
-use Rattle.decision.proofs.Granting.{weightless_same, sum_weights, condition_same}
+use Rattle.decision.proofs.Granting.{members_same, weightless_same, sum_weights, condition_same}
 use Rattle.decision.proofs.decide_checked.Goals as goal
 
 -- what is learnt of the group where none of 12 to 15 applies
@@ -27,13 +27,9 @@ record Known (b g : List ℕ) : Type 0 where
   few : length g ≤ 12
   low : (i : ℕ) → i < entry_count g → entry_role g i < 8
 
--- the base of who may act is the base
-moved : (g : List ℕ) {a b : List ℕ} {n : ℕ} → a ≡ b → n ≡ members_of a g → n ≡ members_of b g
-moved g same is = is ∙ ap (λ b. members_of b g) same
-
 known : {a b m g : List ℕ} → refusal_of b ≡ 0 → a ≡ b → m ≡ g → 0 ≡ members_of a g → Known b m
 known {b = b} {m = m} {g = g} ok same is passed =
-    let none = ap (members_of b) is ∙ sym (moved g same passed) in
+    let none = ap (members_of b) is ∙ sym (members_same g same passed) in
     let s : Members (user_count b) (role_count b) (may_act b) m = members_of_lem _ _ _ m none in
     record {
       none = none;
@@ -82,7 +78,7 @@ module _ (rules b : List ℕ) (at : Context) (p : ℕ) (g : List ℕ) where
 pub returns-in_err-members : goal.returns-in_err-members
 returns-in_err-members c =
     handed_on _ _ c.from_residual.ensures.1
-    ∙ by_members _ _ _ _ _ (moved c.args.group.now c.by.ensures c.in_err-members.ensures.number) (refusal_pos _)
+    ∙ by_members _ _ _ _ _ (members_same c.args.group.now c.by.ensures c.in_err-members.ensures.number) (refusal_pos _)
 
 pub role_weights-w-requires : goal.role_weights-w-requires
 role_weights-w-requires c = lt_of_lt_of_le c.requires.0 (permissions_le _ (accepted _ c.part-k.ensures.accepted).frame)

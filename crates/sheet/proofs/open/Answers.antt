@@ -1,9 +1,8 @@
 -- `open` meets its contract: the head of the decision's chain, and the sheet that each refusal gives.
-use Rattle.std.proofs.Common.{ℕ, ◌≤◌, ◌<◌, List, ◌≡◌, refl, sym, ◌∙◌}
+use Rattle.std.proofs.Common.{ℕ, ◌≤◌, ◌<◌, List, ◌≡◌, refl, ap, sym, ◌∙◌}
 use borrow.Author.Tests.{lt-ltb, le-ltb, ne_eqb}
 use Rattle.reader.specs.Tables.{permission_count}
 use Rattle.reader.specs.Rules.{refusal_of}
-use Rattle.reader.proofs.Accepted.{accepted_frame}
 use Rattle.std.specs.Prelude.{Err}
 use Rattle.reader.specs.declared.refusal.Refusal.TheVariants.{Permission}
 use Rattle.reader.proofs.Results.{refusal_pos}
@@ -29,20 +28,19 @@ module _ (b : List ℕ) (p : ℕ) where
   unfolding opened_for open_refusal
   done ok e h k = rw (k, ok, ← e, lt-ltb _ _ h)
 
-pub returns-in_err-check : goal.returns-in_err-check
-returns-in_err-check c =
-    unopened_with _ _ c.from_residual.ensures.1 ∙ by_base _ _ c.in_err-check.ensures (refusal_pos _) refl
-
-pub permission_count-requires : goal.permission_count-requires
-permission_count-requires c = accepted_frame _ (sym c.in_ok-check.ensures)
+pub returns-in_err-base : goal.returns-in_err-base
+returns-in_err-base c =
+    unopened_with _ _ c.from_residual.ensures.1 ∙ by_base _ _ c.in_err-base.ensures.number (refusal_pos _) refl
 
 pub returns-then-from-permission : goal.returns-then-from-permission
 returns-then-from-permission c =
+    let e = c.in_ok-base.ensures in
     unopened_with Permission (Err _) c.into.ensures
-    ∙ by_permission _ _ (sym c.in_ok-check.ensures) (c.from.ensures ∙ c.permission_count.ensures)
+    ∙ by_permission _ _ (sym e.number) (c.from.ensures ∙ c.permission_count.ensures ∙ ap permission_count e.same)
     c.if-from-permission.true refl
 
 pub returns : goal.returns
 returns c =
-    done _ _ (sym c.in_ok-check.ensures) (c.from.ensures ∙ c.permission_count.ensures)
+    let e = c.in_ok-base.ensures in
+    done _ _ (sym e.number) (c.from.ensures ∙ c.permission_count.ensures ∙ ap permission_count e.same)
     c.if-from-permission.false c.unsigned.ensures

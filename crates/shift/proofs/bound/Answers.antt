@@ -2,7 +2,7 @@
 use Rattle.std.proofs.Common.{ℕ, Bool, true, false, List, length, ◌≡◌, ◌<◌, ◌≤◌, ◌*◌, arith}
 use mathlib.Core.Bool.{cond}
 use Rattle.std.specs.Prelude.{Err}
-use mathlib.Core.Path.{sym, ◌∙◌}
+use mathlib.Core.Path.{ap, sym, ◌∙◌}
 use native.Mathlib.Nat.{lt_of_lt_of_le, suc-ne-zero}
 use borrow.Author.Tests.{ltb-false}
 use lib.Dec.{ltb}
@@ -19,7 +19,7 @@ use Rattle.weights.specs.Acting.{may_act}
 use Rattle.weights.specs.Setting.{Juniors}
 use Rattle.decision.specs.Groups.{entry_count, entry_role}
 use Rattle.decision.specs.Decision.{members_of}
-use Rattle.decision.proofs.Granting.{Members, members_of_lem, short_enough, role_below}
+use Rattle.decision.proofs.Granting.{Members, members_of_lem, members_same, short_enough, role_below}
 use Rattle.shift.specs.Counting.{entries_at_or_above}
 use Rattle.shift.specs.Shift.{distance, bound_of, change_refused, bound_refusal}
 use Rattle.shift.proofs.Laws.{touched_by, change_allowed}
@@ -32,10 +32,10 @@ record Known (b g : List ℕ) : Type 0 where
   few : length g ≤ 12
   low : (k : ℕ) → k < entry_count g → entry_role g k < 8
 
-known : {b g : List ℕ} → 0 ≡ refusal_of b → 0 ≡ members_of b g → Known b g
-known {b} {g} checked fine =
+known : {a b g : List ℕ} → 0 ≡ refusal_of b → a ≡ b → 0 ≡ members_of a g → Known b g
+known {b = b} {g = g} checked same fine =
     let ok = sym checked in
-    let none = sym fine in
+    let none = sym (members_same g same fine) in
     let m : Members (user_count b) (role_count b) (may_act b) g = members_of_lem _ _ _ g none in
     record {
       ok = ok;
@@ -88,24 +88,24 @@ bound_by : (b juniors a : List ℕ) (i w : ℕ) (g : List ℕ) {k : ℕ} → a �
 unfolding bound_of
 bound_by b juniors a i w g e are low h = rw (e, touched_by b juniors are i g low) at h
 
-pub returns-in_err-check : goal.returns-in_err-check
-returns-in_err-check c =
+pub returns-in_err-base : goal.returns-in_err-base
+returns-in_err-base c =
     carried_on _ _ c.from_residual.ensures.1
-    ∙ answered_refused _ _ (by_check _ _ _ _ c.in_err-check.ensures (refusal_pos _)) (refusal_pos _)
+    ∙ answered_refused _ _ (by_check _ _ _ _ c.in_err-base.ensures.number (refusal_pos _)) (refusal_pos _)
 
 pub returns-in_err-members_refusal : goal.returns-in_err-members_refusal
 returns-in_err-members_refusal c =
-    let ok = sym c.in_ok-check.ensures in
+    let e = c.in_ok-base.ensures in
+    let is = members_same c.args.group.now (c.of-acting.ensures ∙ e.same) c.in_err-members_refusal.ensures in
     carried_on _ _ c.from_residual-in_err-members_refusal.ensures.1
-    ∙ answered_refused _ _ (by_members _ _ _ _ ok c.in_err-members_refusal.ensures (refusal_pos _)) (refusal_pos _)
-
-pub part-a-requires : goal.part-a-requires
-part-a-requires c = accepted_frame _ (sym c.in_ok-check.ensures)
+    ∙ answered_refused _ _ (by_members _ _ _ _ (sym e.number) is (refusal_pos _)) (refusal_pos _)
 
 pub returns-then-change_refused : goal.returns-then-change_refused
 returns-then-change_refused c =
-    let k = known c.in_ok-check.ensures c.in_ok-members_refusal.ensures in
-    let bad = by_table c.args.policy c.args.weight c.part-a.ensures c.if-change_refused.ensures in
+    let e = c.in_ok-base.ensures in
+    let k = known e.number (c.of-acting.ensures ∙ e.same) c.in_ok-members_refusal.ensures in
+    let table = c.part-a.ensures.table ∙ ap (λ b. table_of b policies) e.same in
+    let bad = by_table c.args.policy c.args.weight table c.if-change_refused.ensures in
     carried_on Change (Err _) c.into.ensures ∙ answered_refused _ _ (by_21 _ _ _ _ k bad) (suc-ne-zero 20)
 
 pub overflow_cast-weight : goal.overflow_cast-weight
@@ -113,15 +113,20 @@ overflow_cast-weight c = let most = small _ c.args.policy c.args.weight (sym c.i
 
 pub bound_of-requires : goal.bound_of-requires
 bound_of-requires c =
-    let k = known c.in_ok-check.ensures c.in_ok-members_refusal.ensures in
-    let good = by_table c.args.policy c.args.weight c.part-a.ensures c.if-change_refused.ensures in
-    let (there, low) = in_table _ _ _ k.ok c.part-a.ensures (change_allowed _ _ c.args.weight good).0 in
+    let e = c.in_ok-base.ensures in
+    let k = known e.number (c.of-acting.ensures ∙ e.same) c.in_ok-members_refusal.ensures in
+    let table = c.part-a.ensures.table ∙ ap (λ b. table_of b policies) e.same in
+    let good = by_table c.args.policy c.args.weight table c.if-change_refused.ensures in
+    let (there, low) = in_table _ _ _ k.ok table (change_allowed _ _ c.args.weight good).0 in
     (there, low, k.few, k.low)
 
 pub returns : goal.returns
 returns c =
-    let k = known c.in_ok-check.ensures c.in_ok-members_refusal.ensures in
-    let good = by_table c.args.policy c.args.weight c.part-a.ensures c.if-change_refused.ensures in
+    let e = c.in_ok-base.ensures in
+    let same = c.of-acting.ensures ∙ e.same in
+    let k = known e.number same c.in_ok-members_refusal.ensures in
+    let table = c.part-a.ensures.table ∙ ap (λ b. table_of b policies) e.same in
+    let good = by_table c.args.policy c.args.weight table c.if-change_refused.ensures in
     answered_done_lem _ _ (by_none _ _ _ _ k good)
-    (bound_by _ _ _ c.args.policy c.args.weight c.args.group.now c.part-a.ensures c.juniors_of_base-juniors.ensures
+    (bound_by _ _ _ c.args.policy c.args.weight c.args.group.now table (rw same at c.juniors.ensures)
     k.low c.bound_of.ensures)

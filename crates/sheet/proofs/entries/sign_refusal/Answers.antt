@@ -10,9 +10,16 @@ use Rattle.decision.specs.Groups.{entry_count, unknown}
 use Rattle.sheet.specs.Sheets.{stands_in, sign_refusal}
 use Rattle.sheet.proofs.entries.sign_refusal.Goals as goal
 
-module _ (base held : List ℕ) (user role : ℕ) where
+-- 1 to 9
+by_check : (base held : List ℕ) (user role : ℕ) {n : ℕ} → n ≡ refusal_of base → (n ≡ 0 → ⊥) →
+    n ≡ sign_refusal base held user role
+unfolding sign_refusal
+by_check base held user role e h = e ∙ refused _ (λ k. h (e ∙ k))
+
+-- the base as it was lent, and as the accepted one that it is the bytes of
+module _ (lent base held : List ℕ) (user role : ℕ) where
   abbrev answer : ℕ
-  answer = sign_refusal base held user role
+  answer = sign_refusal lent held user role
 
   abbrev not_there : Bool
   not_there = unknown (user_count base) (role_count base) user role
@@ -30,13 +37,9 @@ module _ (base held : List ℕ) (user role : ℕ) where
   abbrev left9 : ℕ
   left9 = cond not_there 13 left13
 
-  at9 : {n : ℕ} → n ≡ refusal_of base → (n ≡ 0 → ⊥) → n ≡ answer
+  past9 : base ≡ lent → 0 ≡ refusal_of lent → answer ≡ left9
   unfolding sign_refusal
-  at9 e h = e ∙ refused _ (λ k. h (e ∙ k))
-
-  past9 : 0 ≡ refusal_of base → answer ≡ left9
-  unfolding sign_refusal
-  past9 ok = unrefused (sym ok)
+  past9 same ok = rw same (unrefused (sym ok))
 
   at13 : {t : Bool} → answer ≡ left9 → t ≡ not_there → t ≡ true → 13 ≡ answer
   at13 rest e h = met _ (sym e ∙ h) ∙ sym rest
@@ -62,64 +65,52 @@ module _ (base held : List ℕ) (user role : ℕ) where
   past20 : answer ≡ left15 → entry_count held < 6 → 0 ≡ answer
   past20 rest h = sym (rest ∙ passed 20 (not_ltb (entry_count held) 6 ∙ lt-leb _ _ h))
 
-pub returns-in_err-check : goal.returns-in_err-check
-returns-in_err-check c =
-    let b = c.args.base.now in
-    let held = c.args.held.now in
-    let u = c.args.user in
-    let r = c.args.role in
-    handed_on _ _ c.from_residual.ensures.1 ∙ at9 b held u r c.in_err-check.ensures (refusal_pos _)
+pub returns-in_err-base : goal.returns-in_err-base
+returns-in_err-base c =
+    let a = c.args in
+    handed_on _ _ c.from_residual.ensures.1
+    ∙ by_check _ a.held.now a.user a.role c.in_err-base.ensures.number (refusal_pos _)
 
 pub returns-then-is_unknown : goal.returns-then-is_unknown
 returns-then-is_unknown c =
-    let b = c.args.base.now in
-    let held = c.args.held.now in
-    let u = c.args.user in
-    let r = c.args.role in
-    let rest9 = past9 b held u r c.in_ok-check.ensures in
-    at13 b held u r rest9 c.is_unknown.ensures c.if-is_unknown.true
+    let a = c.args in
+    let e = c.in_ok-base.ensures in
+    let rest9 = past9 _ _ a.held.now a.user a.role e.same e.number in
+    at13 _ _ _ _ _ rest9 c.is_unknown.ensures c.if-is_unknown.true
 
 pub returns-then-stands_in : goal.returns-then-stands_in
 returns-then-stands_in c =
-    let b = c.args.base.now in
-    let held = c.args.held.now in
-    let u = c.args.user in
-    let r = c.args.role in
-    let rest9 = past9 b held u r c.in_ok-check.ensures in
-    let rest13 = past13 b held u r rest9 c.is_unknown.ensures c.if-is_unknown.false in
-    at14 b held u r rest13 c.stands_in.ensures c.if-stands_in.true
+    let a = c.args in
+    let e = c.in_ok-base.ensures in
+    let rest9 = past9 _ _ a.held.now a.user a.role e.same e.number in
+    let rest13 = past13 _ _ _ _ _ rest9 c.is_unknown.ensures c.if-is_unknown.false in
+    at14 _ _ _ _ _ rest13 c.stands_in.ensures c.if-stands_in.true
 
 pub returns-then-is_ineligible : goal.returns-then-is_ineligible
 returns-then-is_ineligible c =
-    let b = c.args.base.now in
-    let held = c.args.held.now in
-    let u = c.args.user in
-    let r = c.args.role in
-    let rest9 = past9 b held u r c.in_ok-check.ensures in
-    let rest13 = past13 b held u r rest9 c.is_unknown.ensures c.if-is_unknown.false in
-    let rest14 = past14 b held u r rest13 c.stands_in.ensures c.if-stands_in.false in
-    at15 b held u r rest14 c.is_ineligible.ensures c.if-is_ineligible.true
+    let a = c.args in
+    let e = c.in_ok-base.ensures in
+    let rest9 = past9 _ _ a.held.now a.user a.role e.same e.number in
+    let rest13 = past13 _ _ _ _ _ rest9 c.is_unknown.ensures c.if-is_unknown.false in
+    let rest14 = past14 _ _ _ _ _ rest13 c.stands_in.ensures c.if-stands_in.false in
+    at15 _ _ _ _ _ rest14 c.is_ineligible.ensures c.if-is_ineligible.true
 
 pub returns-then-held-ge6 : goal.returns-then-held-ge6
 returns-then-held-ge6 c =
-    let b = c.args.base.now in
-    let held = c.args.held.now in
-    let u = c.args.user in
-    let r = c.args.role in
-    let rest9 = past9 b held u r c.in_ok-check.ensures in
-    let rest13 = past13 b held u r rest9 c.is_unknown.ensures c.if-is_unknown.false in
-    let rest14 = past14 b held u r rest13 c.stands_in.ensures c.if-stands_in.false in
-    let rest15 = past15 b held u r rest14 c.is_ineligible.ensures c.if-is_ineligible.false in
-    at20 b held u r rest15 c.if-held-ge6.true
+    let a = c.args in
+    let e = c.in_ok-base.ensures in
+    let rest9 = past9 _ _ a.held.now a.user a.role e.same e.number in
+    let rest13 = past13 _ _ _ _ _ rest9 c.is_unknown.ensures c.if-is_unknown.false in
+    let rest14 = past14 _ _ _ _ _ rest13 c.stands_in.ensures c.if-stands_in.false in
+    let rest15 = past15 _ _ _ _ _ rest14 c.is_ineligible.ensures c.if-is_ineligible.false in
+    at20 _ c.in_ok-base.base _ _ _ rest15 c.if-held-ge6.true
 
 pub returns : goal.returns
 returns c =
-    let b = c.args.base.now in
-    let held = c.args.held.now in
-    let u = c.args.user in
-    let r = c.args.role in
-    let rest9 = past9 b held u r c.in_ok-check.ensures in
-    let rest13 = past13 b held u r rest9 c.is_unknown.ensures c.if-is_unknown.false in
-    let rest14 = past14 b held u r rest13 c.stands_in.ensures c.if-stands_in.false in
-    let rest15 = past15 b held u r rest14 c.is_ineligible.ensures c.if-is_ineligible.false in
-    past20 b held u r rest15 c.if-held-ge6.false
+    let a = c.args in
+    let e = c.in_ok-base.ensures in
+    let rest9 = past9 _ _ a.held.now a.user a.role e.same e.number in
+    let rest13 = past13 _ _ _ _ _ rest9 c.is_unknown.ensures c.if-is_unknown.false in
+    let rest14 = past14 _ _ _ _ _ rest13 c.stands_in.ensures c.if-stands_in.false in
+    let rest15 = past15 _ _ _ _ _ rest14 c.is_ineligible.ensures c.if-is_ineligible.false in
+    past20 _ c.in_ok-base.base _ _ _ rest15 c.if-held-ge6.false
