@@ -11,7 +11,8 @@ use lib.ListN.{length, drop, length-append}
 use lib.Seq.{sets-eq}
 use Rattle.folds.specs.Below.{join_below}
 use Rattle.reader.specs.declared.Answer.{Answer}
-use Rattle.reader.specs.Tables.{permission_count, frame_refusal}
+use Rattle.reader.specs.Tables.{permission_count}
+use Rattle.reader.proofs.Frame.{permissions_le}
 use Rattle.reader.proofs.Accepted.{accepted_frame}
 use Rattle.reader.proofs.Answered.{refusal_in, count_in}
 use Rattle.weights.specs.declared.Context.{Context}
@@ -41,7 +42,7 @@ count_short words n l = let e = count_length words n in let h = three_length n i
 -- what is known of a report that isn't refused, before its text is written: 16 lines of at most 47 bytes and a last
 -- line of 14 fit
 pub record Ready (b after : List ℕ) (r : Answer) : Type 0 where
-  pub tables : frame_refusal b ≡ 0
+  pub few : permission_count b ≤ 16
   pub parts : Parts after (permission_count b)
   pub lines : length (lines_text after (permission_count b)) ≤ 752
   pub count : r.count ≤ 16
@@ -114,7 +115,7 @@ module _ (b : List ℕ) (at : Context) (was after : List ℕ) (r : Answer) (size
 
     pub report_ready : length after ≡ 208 → Ready b after r
     report_ready l = record {
-      tables = accepted_frame b (base_accepted b at 208 unrefused);
+      few = permissions_le b (accepted_frame b (base_accepted b at 208 unrefused));
       parts = rw d.bytes (shown_parts b at d.chosen unrefused shows was size (rw d.bytes at l));
       lines = lines_short;
       count = count_few;

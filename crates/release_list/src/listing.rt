@@ -4,7 +4,7 @@ ghost use Rattle.release_list.specs.Text.{context_of, Listed, WholeListed};
 ghost use Rattle.release_list.specs.Writing.{IsBlank, SameBuffer, ReportListed};
 
 use crate::text::Page;
-use reader::Refusal;
+use reader::{Refusal, Table};
 use weights::Context;
 
 // The context in the first four bytes of the input: minute (2 bytes), day, zone (1 byte each).
@@ -29,7 +29,8 @@ fn put_report(page: &mut Page<'_>, base: &[u8], at: Context)
     let mut parts = [0u8; 208];
     match report::report(base, at, &mut parts) {
         Ok(count) => {
-            page.put_lines(&parts, reader::trailer::permission_count(base));
+            let permissions = reader::table(base, Table::Permissions as usize).len() / 2;
+            page.put_lines(&parts, permissions as u8);
             page.put_count(b"releasable ", count as u8);
         }
         Err(refused) => page.put_count(b"refused ", refused.refusal.into()),

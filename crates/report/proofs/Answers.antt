@@ -17,7 +17,7 @@ use Rattle.decision.specs.Decision.{decision_by}
 use Rattle.report.specs.Smallest.{Deciding}
 use Rattle.report.specs.Report.{fitting, report_refusal, report_refusal_lent, releasable, report_answer}
 use Rattle.report.specs.Report.{report_bytes, Reported}
-use Rattle.report.specs.Parts.{Filled}
+use Rattle.report.specs.Parts.{Filled, FilledBy}
 
 module _ (b : List ℕ) (at : Context) (n : ℕ) where
   -- 11, then 19
@@ -88,10 +88,11 @@ pub refused_as : {decision : Deciding} {P refusal : ℕ} {out after : List ℕ} 
     Reported decision P refusal out after y → Reported decision P refusal out after x
 refused_as e reported = rw e reported
 
--- by the context and the rules that a setting holds
-pub reported_by : (rules b : List ℕ) (at : Context) (P refusal : ℕ) (out : List ℕ)
-    {held : Context} {kept after : List ℕ} {count : ℕ} → refusal ≡ 0 → held ≡ at → kept ≡ rules →
-    count ≡ releasable (decision_by kept b held) P → Filled (decision_by kept b held) P out after →
-    Reported (decision_by rules b at) P refusal out after (record { refusal = 0; count = count })
-reported_by rules b at P refusal out e same listed is f =
-    reported_done (decision_by rules b at) P refusal out e (rw (same, listed) at is) (rw (same, listed) at f)
+-- by the base that was accepted, and the context and the rules that a setting holds
+pub reported_by : (rules b : List ℕ) (at : Context) (refusal : ℕ) (out : List ℕ)
+    {passed kept after : List ℕ} {held : Context} {count : ℕ} → refusal ≡ 0 → passed ≡ b → held ≡ at → kept ≡ rules →
+    FilledBy (decision_by kept passed held) (permission_count passed) out after count →
+    Reported (decision_by rules b at) (permission_count b) refusal out after (record { refusal = 0; count = count })
+reported_by rules b at refusal out e base same listed (is, f) =
+    reported_done (decision_by rules b at) (permission_count b) refusal out e
+    (rw (base, same, listed) at is) (rw (base, same, listed) at f)

@@ -1,16 +1,15 @@
 // The release report: the smallest group for each permission.
-// That a base is accepted stands in clauses: `reader::check` says why.
 #![tactic(auto)]
 
 ghost use Rattle.std.specs.Prelude.{◌≡◌, ◌*◌, ◌≤◌, length};
 ghost use Rattle.reader.specs.Tables.{permission_count};
-ghost use Rattle.reader.specs.Rules.{refusal_of};
 ghost use Rattle.reader.specs.Refusals.{answer_from, number_of};
 ghost use Rattle.report.specs.Report.{fitting, ReportedOf, ReportedLent};
 ghost use Rattle.report.specs.Parts.{Settled, decided, FilledBy};
 ghost use Rattle.report.specs.Demand.{Demanded, DemandedLent};
 
-use reader::{Refusal, Refused, bytes};
+use reader::{Base, Refusal, Refused, bytes};
+use weights::acting::Acting;
 use weights::{Context, Fixed};
 
 mod parts;
@@ -22,10 +21,10 @@ pub fn report(base: &[u8], at: Context, out: &mut [u8]) -> Result<u32, Refused>
     ensures promise { ReportedOf base.now at out.old out.new (answer_from result) }
     ensures demand { Demanded base.now at out.old out.new (answer_from result) }
 {
-    reader::check(base)?;
-    fitting_refusal(base, at, out.len())?;
-    let s = weights::setting(base, at);
-    Ok(fill(base, s, out))
+    let base = reader::accept(base)?;
+    fitting_refusal(&base, at, out.len())?;
+    let s = weights::setting(&base, at);
+    Ok(fill(&base, s, out))
 }
 
 // Entry point: the same by a resolution list, of the decision that `decide_by` gives with that list; 22 comes after 9.
@@ -33,31 +32,30 @@ pub fn report_by(base: &[u8], at: Context, list: &[u8], out: &mut [u8]) -> Resul
     ensures promise { ReportedLent list.now base.now at out.old out.new (answer_from result) }
     ensures demand { DemandedLent list.now base.now at out.old out.new (answer_from result) }
 {
-    resolution::lent_refusal(base, list)?;
-    fitting_refusal(base, at, out.len())?;
-    let s = weights::setting_by(base, at, list);
-    Ok(fill(base, s, out))
+    let base = resolution::accept(base, list)?;
+    fitting_refusal(&base, at, out.len())?;
+    let s = weights::setting_by(&base, at, list);
+    Ok(fill(&base, s, out))
 }
 
 // Refusals 11 and 19 for an accepted base and a buffer of n bytes.
-fn fitting_refusal(base: &[u8], at: Context, n: usize) -> Result<(), Refusal>
-    requires { refusal_of base.now ≡ 0 }
+fn fitting_refusal(base: &Base<'_>, at: Context, n: usize) -> Result<(), Refusal>
     ensures { number_of result ≡ fitting base.now at n }
 {
     if weights::contexts::out_of_range(at) {
         return Err(Refusal::Context);
     }
-    if n < 13 * bytes::wide(reader::trailer::permission_count(base)) {
+    if n < 13 * bytes::wide(base.permission_count()) {
         return Err(Refusal::ReportRoom);
     }
     Ok(())
 }
 
 // Writes each permission's part, by a setting of an accepted base; the number of permissions that have a group.
-fn fill(base: &[u8], s: Fixed, out: &mut [u8]) -> u32
+fn fill(base: &Base<'_>, s: Fixed, out: &mut [u8]) -> u32
     requires { Settled base.now s × (13 * permission_count base.now ≤ length out.old) }
     ensures { FilledBy (decided base.now s) (permission_count base.now) out.old out.new result }
 {
-    let sets = parts::acting_sets(base, s.juniors);
+    let sets = parts::acting_sets(&Acting::by(base, s.juniors));
     parts::fill(base, s, &sets, out)
 }

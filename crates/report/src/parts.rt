@@ -1,9 +1,6 @@
 // The 13 bytes of each permission.
-// That a base is accepted stands in clauses: `reader::check` says why.
 ghost use Rattle.std.specs.Prelude.{◌≡◌, ◌∷◌, ◌*◌, ◌≤◌, ◌<◌, length, replicate, IfSome, MatchOption};
-ghost use Rattle.reader.specs.Tables.{hierarchy, permission_count, role_count, table_of};
-ghost use Rattle.reader.specs.Rules.{refusal_of};
-ghost use Rattle.weights.specs.Setting.{Juniors};
+ghost use Rattle.reader.specs.Tables.{permission_count, role_count};
 ghost use Rattle.multisets.specs.Ranks.{first};
 ghost use Rattle.multisets.specs.Ends.{NextTable};
 ghost use Rattle.report.specs.Parts.{ActingSets, PartFor, FilledBy, Settled, decided, GroundsOf, UsersOf};
@@ -11,16 +8,16 @@ ghost use Rattle.report.specs.Parts.{ActingSets, PartFor, FilledBy, Settled, dec
 use masks::Placed;
 use multisets::ends;
 use multisets::levels::LevelTables;
-use reader::bytes;
+use reader::{Base, Table, bytes};
 use seek::{Found, Masks};
+use weights::acting::Acting;
 use weights::{Chosen, Fixed};
 
-// Inner: for each user of an accepted base with these juniors the set of the roles that the user may act in.
-pub fn acting_sets(base: &[u8], juniors: [u8; 8]) -> [u8; 24]
-    requires { (refusal_of base.now ≡ 0) × Juniors (table_of base.now hierarchy) juniors }
-    ensures { ActingSets base.now result }
+// Inner: for each user the set of the roles that the user may act in.
+pub fn acting_sets(acting: &Acting<'_>) -> [u8; 24]
+    ensures { ActingSets acting.now result }
 {
-    std::array::from_fn(|u| weights::acting::acting_roles(base, juniors, u))
+    std::array::from_fn(|u| acting.roles(u))
 }
 
 // What a report goes by for every permission: the setting, the weights that count, and the sets' numbers of roles.
@@ -31,12 +28,12 @@ pub struct Grounds {
     pub counts: [u8; 256],
 }
 
-fn grounds_of(base: &[u8], fixed: Fixed) -> Grounds
+fn grounds_of(base: &Base<'_>, fixed: Fixed) -> Grounds
     requires { Settled base.now fixed }
     ensures { (result.fixed ≡ fixed) × GroundsOf base.now result }
 {
     let mut counts = [0u8; 256];
-    let roles = reader::trailer::role_count(base);
+    let roles = base.role_count();
     masks::sets::role_counts(&mut counts, masks::sets::sets_below(roles));
     Grounds {
         fixed,
@@ -63,7 +60,7 @@ fn part_of(found: Option<Found>) -> [u8; 13]
 
 // The part of a permission, by tables for the base's users and roles.
 fn part_for<const ROWS: usize, const PLACES: usize>(
-    base: &[u8],
+    base: &Base<'_>,
     s: &Grounds,
     permission: u8,
     tables: &mut LevelTables<ROWS, PLACES>,
@@ -75,7 +72,7 @@ fn part_for<const ROWS: usize, const PLACES: usize>(
         × (tables.new.d ≡ tables.old.d) × (tables.new.nexts ≡ tables.old.nexts) }
 {
     let w = s.chosen.role_weights(s.fixed.juniors, permission);
-    let k = reader::trailer::part(base, reader::Table::Clauses);
+    let k = base.part(Table::Clauses);
     let nobody = Placed {
         count: 0,
         sum: 0,
@@ -86,7 +83,7 @@ fn part_for<const ROWS: usize, const PLACES: usize>(
 
 // Writes each permission's part; the number of permissions that have a group.
 fn fill_in<const ROWS: usize, const PLACES: usize>(
-    base: &[u8],
+    base: &Base<'_>,
     s: &Grounds,
     nexts: [u8; 200],
     out: &mut [u8],
@@ -97,7 +94,7 @@ fn fill_in<const ROWS: usize, const PLACES: usize>(
         × (13 * permission_count base.now ≤ length out.old) }
     ensures { FilledBy (decided base.now s.now.fixed) (permission_count base.now) out.old out.new result }
 {
-    let roles = bytes::wide(reader::trailer::role_count(base));
+    let roles = bytes::wide(base.role_count());
     let mut tables = LevelTables::<ROWS, PLACES>::new(roles, nexts);
     // Each is written before it is read; filled unlike they are cleared apart, by vectors and not byte by byte.
     let mut masks = Masks {
@@ -105,8 +102,9 @@ fn fill_in<const ROWS: usize, const PLACES: usize>(
         sets: [u64::MAX; 256],
     };
     let mut count: u32 = 0;
-    // A loop and no chain: what an adapter's closure returns that changes the tables no proof of this kit knows.
-    for p in 0..reader::trailer::permission_count(base) {
+    // A loop by number and no chain: document 01 asks for each permission's 13 bytes lent on as a mutable part starting
+    // at 13 times its number; and what an adapter's closure returns that changes the tables no proof of this kit knows.
+    for p in 0..base.permission_count() {
         let part = part_for(base, s, p, &mut tables, &mut masks);
         let at = 13 * bytes::wide(p);
         out[at..at + 13].copy_from_slice(&part);
@@ -117,14 +115,14 @@ fn fill_in<const ROWS: usize, const PLACES: usize>(
 
 // Inner: writes each permission's part; the number of permissions that have a group. Fewer roles take smaller tables:
 // the rows of multisets of at most four of them, and the multisets of at most six.
-pub fn fill(base: &[u8], fixed: Fixed, sets: &[u8; 24], out: &mut [u8]) -> u32
+pub fn fill(base: &Base<'_>, fixed: Fixed, sets: &[u8; 24], out: &mut [u8]) -> u32
     requires { Settled base.now fixed × ActingSets base.now sets.now
         × (13 * permission_count base.now ≤ length out.old) }
     ensures { FilledBy (decided base.now fixed) (permission_count base.now) out.old out.new result }
 {
     let s = grounds_of(base, fixed);
-    let nexts = ends::next_ends(sets, reader::trailer::user_count(base));
-    match reader::trailer::role_count(base) {
+    let nexts = ends::next_ends(sets, base.user_count());
+    match base.role_count() {
         0..=3 => fill_in::<280, 84>(base, &s, nexts, out),
         4 | 5 => fill_in::<1008, 462>(base, &s, nexts, out),
         _ => fill_in::<3960, 3003>(base, &s, nexts, out),

@@ -2,30 +2,36 @@
 use Rattle.std.proofs.Common.{ℕ, ◌+◌, ◌≡◌, ◌≤◌, List, length, arith, refl, sym, ◌∙◌}
 use Rattle.reader.specs.declared.Answer.{Answer}
 use Rattle.reader.proofs.Results.{refusal_pos}
-use Rattle.reader.specs.Tables.{permission_count}
+use Rattle.reader.specs.Tables.{permissions, permission_count, record_count, table_of}
 use Rattle.release_list.specs.Text.{ascii}
 use Rattle.release_list.specs.Writing.{Written, Parts, lines_text}
 use Rattle.release_list.proofs.Answered.{count_short, Ready, report_ready, refused_listed, done_listed}
 use Rattle.release_list.proofs.Stores.{same_size}
 use Rattle.release_list.proofs.listing.put_report.Goals as goal
 
--- the lines for a number of parts that is that of the permissions, put on a page that held no text
-module _ (b parts : List ℕ) {n len : ℕ} (is : n ≡ permission_count b) (none : len ≡ 0) where
+-- the lines for the permissions of a table that is the base's, put on a page that held no text
+module _ (b parts : List ℕ) {table : List ℕ} {len : ℕ} (is : table ≡ table_of b permissions) (none : len ≡ 0) where
+  abbrev lines : List ℕ
+  lines = lines_text parts (record_count permissions table)
+
   lines_asked : {answer : Answer} {room : ℕ} → Ready b parts answer → 768 ≤ room →
-      Parts parts n × (len + length (lines_text parts n) ≤ room)
+      Parts parts (record_count permissions table) × (len + length lines ≤ room)
   lines_asked ready l = rw is (ready.parts, omega (arith, ready.lines, none))
 
-  lines_written : {out now : List ℕ} {next : ℕ} → Written (lines_text parts n) out len next now →
+  lines_written : {out now : List ℕ} {next : ℕ} → Written lines out len next now →
       Written (lines_text parts (permission_count b)) out 0 next now
   lines_written w = rw (is, none) at w
 
-pub permission_count-requires : goal.permission_count-requires
-permission_count-requires c = (report_ready _ _ _ _ _ refl c.in-Ok.ensures.promise refl (omega arith)).tables
+pub overflow_cast-permissions : goal.overflow_cast-permissions
+overflow_cast-permissions c =
+    let ready = report_ready _ _ _ _ _ refl c.in-Ok.ensures.promise refl (omega arith) in
+    let few : record_count permissions c.table.result.now ≤ 16 = rw c.table.ensures ready.few in
+    omega arith
 
 pub put_lines-requires : goal.put_lines-requires
 put_lines-requires c =
     let ready = report_ready _ _ _ _ _ refl c.in-Ok.ensures.promise refl (omega arith) in
-    lines_asked c.args.base.now c.report.new.out c.permission_count.ensures c.requires.0 ready c.requires.1
+    lines_asked c.args.base.now c.report.new.out c.table.ensures c.requires.0 ready c.requires.1
 
 pub overflow_cast-count : goal.overflow_cast-count
 overflow_cast-count c =
@@ -36,13 +42,13 @@ pub put_count-requires : goal.put_count-requires
 put_count-requires c =
     let ready = report_ready _ _ _ _ _ refl c.in-Ok.ensures.promise refl (omega arith) in
     let lines = c.put_lines.ensures.written in
-    let w = lines_written c.args.base.now c.report.new.out c.permission_count.ensures c.requires.0 lines in
+    let w = lines_written c.args.base.now c.report.new.out c.table.ensures c.requires.0 lines in
     omega (arith, w.place, ready.lines, ready.last, c.requires.1, same_size w)
 
 pub returns-in-Ok-clause-text : goal.returns-in-Ok-clause-text
 returns-in-Ok-clause-text c =
     let lines = c.put_lines.ensures.written in
-    let w = lines_written c.args.base.now c.report.new.out c.permission_count.ensures c.requires.0 lines in
+    let w = lines_written c.args.base.now c.report.new.out c.table.ensures c.requires.0 lines in
     done_listed _ _ _ _ _ refl c.in-Ok.ensures.promise refl c.requires.1 w c.put_count.ensures.written
 
 pub put_count-requires-in-Err : goal.put_count-requires-in-Err

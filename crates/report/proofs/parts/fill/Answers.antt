@@ -9,7 +9,7 @@ use Rattle.folds.proofs.Bools.{met_or_not, never_met}
 use Rattle.folds.proofs.Numbers.{sum_zero}
 use Rattle.reader.specs.Tables.{role_count, user_count}
 use Rattle.reader.specs.Rules.{refusal_of}
-use Rattle.reader.proofs.Frame.{framed, roles_range, users_le}
+use Rattle.reader.proofs.Frame.{users_le}
 use Rattle.reader.proofs.Accepted.{accepted_frame}
 use Rattle.weights.specs.Acting.{may_act}
 use Rattle.weights.proofs.MayAct.{acting_known}
@@ -58,23 +58,17 @@ module _ {d : ℕ} where
   unfolding first starts sum_below
   room_for_8 = room 8 refl refl
 
-pub user_count-requires : goal.user_count-requires
-user_count-requires c = accepted_frame _ c.requires.0.accepted
-
 pub next_ends-nexts-requires : goal.next_ends-nexts-requires
 next_ends-nexts-requires c =
     let p = c.requires in
     let n = c.user_count.ensures in
     (few_users p.1 p.0.accepted n, idle_past p.1 p.0.accepted n)
 
-pub role_count-requires : goal.role_count-requires
-role_count-requires c = (framed _ (accepted_frame _ c.requires.0.accepted)).long
-
 pub fill_in-requires : goal.fill_in-requires
 fill_in-requires c =
     let p = c.requires in
     let (next, table) = c.next_ends-nexts.ensures in
-    let few : role_count c.args.base.now ≤ 3 = omega (arith, c.role_count.ensures) in
+    let few : role_count c.args.base.now ≤ 3 = omega (arith, c.role_count.ensures.0) in
     let (rows, places) = room_for_3 few in
     (c.grounds_of-s.ensures.1, users_of p.1 next, table, rows, places, omega arith, omega arith, p.2)
 
@@ -82,7 +76,7 @@ pub fill_in-requires-in-4 : goal.fill_in-requires-in-4
 fill_in-requires-in-4 c =
     let p = c.requires in
     let (next, table) = c.next_ends-nexts.ensures in
-    let few : role_count c.args.base.now ≤ 5 = omega (arith, c.role_count.ensures) in
+    let few : role_count c.args.base.now ≤ 5 = omega (arith, c.role_count.ensures.0) in
     let (rows, places) = room_for_5 few in
     (c.grounds_of-s.ensures.1, users_of p.1 next, table, rows, places, omega arith, omega arith, p.2)
 
@@ -90,5 +84,6 @@ pub fill_in-requires-in_default : goal.fill_in-requires-in_default
 fill_in-requires-in_default c =
     let p = c.requires in
     let (next, table) = c.next_ends-nexts.ensures in
-    let (rows, places) = room_for_8 (roles_range _ (accepted_frame _ p.0.accepted)).1 in
+    let few : role_count c.args.base.now ≤ 8 = omega (arith, c.role_count.ensures) in
+    let (rows, places) = room_for_8 few in
     (c.grounds_of-s.ensures.1, users_of p.1 next, table, rows, places, omega arith, omega arith, p.2)

@@ -5,13 +5,9 @@ use Rattle.std.specs.Int.{from_bool}
 use borrow.Rule.Slice.PartMut.{put_mid}
 use Rattle.folds.specs.Below.{count_below}
 use Rattle.folds.proofs.Numbers.{count_none, count_le}
-use Rattle.reader.proofs.Frame.{framed, roles_range}
-use Rattle.reader.proofs.Accepted.{accepted_frame}
-use Rattle.multisets.specs.Ranks.{first}
-use Rattle.multisets.specs.Ends.{NextTable}
 use Rattle.report.specs.Smallest.{Deciding, smallest_by}
 use Rattle.report.specs.Report.{releasable}
-use Rattle.report.specs.Parts.{PartFor, Filled, UsersOf}
+use Rattle.report.specs.Parts.{PartFor, Filled}
 use Rattle.report.proofs.Filling.{filled_none, filled_more, count_part}
 use Rattle.report.proofs.parts.fill_in.Goals as goal
 
@@ -27,34 +23,10 @@ module _ {decision : Deciding} {p : ℕ} where
   unfolding releasable
   done e counted f = (counted ∙ rw e, rw e at f)
 
-room : {d d' rows places : ℕ} {nexts : List ℕ} → d ≡ d' → d' ≤ 8 → NextTable nexts → 8 * first d' 5 ≤ rows →
-    first d' 7 ≤ places → (d ≤ 8) × NextTable nexts × (8 * first d 5 ≤ rows) × (first d 7 ≤ places)
-room e most table rows places = rw e (most, table, rows, places)
-
 -- a test counts for at most 1
 bit : (t : Bool) {n : ℕ} → n ≡ from_bool t → n ≤ 1
 bit true e = omega arith
 bit false e = omega arith
-
-same_users : {b nexts nexts' : List ℕ} → nexts' ≡ nexts → UsersOf b nexts → UsersOf b nexts'
-same_users e u = rw e u
-
-pub role_count-requires : goal.role_count-requires
-role_count-requires g c = (framed _ (accepted_frame _ c.requires.0.settled.accepted)).long
-
-pub new-tables-requires : goal.new-tables-requires
-new-tables-requires g c =
-    let p = c.requires in
-    let roles = c.wide-roles.ensures.0 ∙ c.role_count.ensures in
-    (omega arith, room roles (roles_range _ (accepted_frame _ p.0.settled.accepted)).1 p.2 p.3 p.4)
-
-pub permission_count-p-end-requires : goal.permission_count-p-end-requires
-permission_count-p-end-requires g c = accepted_frame _ c.requires.0.settled.accepted
-
-pub part_for-part-requires : goal.part_for-part-requires
-part_for-part-requires g c =
-    let v = c.loop-p.invariant in
-    (omega arith, (c.requires.0, same_users v.nexts c.requires.1, v.roles, omega arith))
 
 pub overflow_add-count : goal.overflow_add-count
 overflow_add-count g c =
@@ -64,7 +36,7 @@ overflow_add-count g c =
 
 pub loop-p-init : goal.loop-p-init
 loop-p-init g c = record {
-  roles = c.new-tables.ensures.0 ∙ c.wide-roles.ensures.0 ∙ c.role_count.ensures;
+  roles = c.new-tables.ensures.0 ∙ c.wide-roles.ensures.0 ∙ c.role_count.ensures.0;
   nexts = c.new-tables.ensures.1;
   counted = sym (count_none _);
   filled = filled_none _ _;
