@@ -8,7 +8,7 @@ pub fn fill<T: Copy, F: Fn(usize) -> T>(places: &mut [T; 64], end: usize, make: 
     requires callable { (i : ℕ) → i < end → F.pre make i }
     ensures { (i : ℕ) (other : _) → i < end → F.post make i (get_or places.new i other) }
 {
-    for i in 0..end {
-        places[i] = make(i);
+    for (i, place) in places[..end].iter_mut().enumerate() {
+        *place = make(i);
     }
 }

@@ -17,10 +17,10 @@ pub fn list(base: &[u8], out: &mut [u8]) -> Result<u32, Refused>
     ensures { (answer_from result ≡ conflict_answer base.now (length out.old))
         × (out.new ≡ conflict_bytes base.now out.old) }
 {
-    reader::check(base)?;
-    let one = rows::contradictions(base);
-    let two = rows::overlaps(base);
-    let three = rows::holders(base);
+    let base = reader::accept(base)?;
+    let one = rows::contradictions(&base);
+    let two = rows::overlaps(&base);
+    let three = rows::holders(&base);
     let count = one.count() + two.count() + three.count();
     if out.len() < 3 * (count as usize) {
         return Err(Refused {

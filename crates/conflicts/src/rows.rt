@@ -1,15 +1,14 @@
 // The conflicts of each kind as rows of bits, a row for each first.
-// That a base is accepted stands in clauses: `reader::check` says why.
 ghost use Rattle.std.specs.Prelude.{◌≡◌, false, ◌&&◌, ◌⊎◌, ℕ, Bool, ◌+◌, ◌*◌, ◌/◌, ◌≤◌, ◌<◌, length, get_or, ltb};
 ghost use Rattle.folds.specs.Sets.{in_set};
-ghost use Rattle.reader.specs.Rules.{policies_bad, refusal_of};
+ghost use Rattle.reader.specs.Rules.{policies_bad};
 ghost use Rattle.reader.specs.Tables.{users, policies, table_of, record_count};
 ghost use Rattle.conflicts.specs.Conflicts.{disagree, holds_both};
 ghost use Rattle.conflicts.specs.Kinds.{kind_number};
 ghost use Rattle.conflicts.specs.Rows.{related_by, contradict_by, overlap_by, Contradictions, Overlaps, Holders};
 
 use crate::{covers, filling};
-use reader::{Table, codes, trailer};
+use reader::{Base, Table, codes};
 use related::slots;
 use weights::sets;
 
@@ -125,15 +124,14 @@ fn holds_row(users: &[u8], roles: u8, x: &[u8], u: usize) -> u64
 }
 
 // Inner: the conflicts of kind 1 of an accepted base, a row for each policy.
-pub fn contradictions(base: &[u8]) -> Conflicts
-    requires { refusal_of base.now ≡ 0 }
+pub fn contradictions(base: &Base<'_>) -> Conflicts
     ensures kind { kind_number result.kind ≡ 1 }
     ensures firsts { result.firsts ≡ record_count policies (table_of base.now policies) }
     ensures rows { Contradictions base.now result.rows }
 {
-    let a = trailer::part(base, Table::Policies);
+    let a = base.part(Table::Policies);
     let names = slots::names(a);
-    let related = slots::relations(trailer::part(base, Table::Contexts), names);
+    let related = slots::relations(base.part(Table::Contexts), names);
     let firsts = a.len() / 8;
     let mut found = Conflicts {
         kind: Kind::Contradiction,
@@ -145,15 +143,14 @@ pub fn contradictions(base: &[u8]) -> Conflicts
 }
 
 // Inner: the conflicts of kind 2 of an accepted base, a row for each policy.
-pub fn overlaps(base: &[u8]) -> Conflicts
-    requires { refusal_of base.now ≡ 0 }
+pub fn overlaps(base: &Base<'_>) -> Conflicts
     ensures kind { kind_number result.kind ≡ 2 }
     ensures firsts { result.firsts ≡ record_count policies (table_of base.now policies) }
     ensures rows { Overlaps base.now result.rows }
 {
-    let a = trailer::part(base, Table::Policies);
-    let covered = covers::cover_sets(trailer::part(base, Table::Hierarchy), a);
-    let apart = covers::excluded_sets(trailer::part(base, Table::Exclusions));
+    let a = base.part(Table::Policies);
+    let covered = covers::cover_sets(base.part(Table::Hierarchy), a);
+    let apart = covers::excluded_sets(base.part(Table::Exclusions));
     let firsts = a.len() / 8;
     let mut found = Conflicts {
         kind: Kind::Overlap,
@@ -169,15 +166,14 @@ pub fn overlaps(base: &[u8]) -> Conflicts
 }
 
 // Inner: the conflicts of kind 3 of an accepted base, a row for each user.
-pub fn holders(base: &[u8]) -> Conflicts
-    requires { refusal_of base.now ≡ 0 }
+pub fn holders(base: &Base<'_>) -> Conflicts
     ensures kind { kind_number result.kind ≡ 3 }
     ensures firsts { result.firsts ≡ record_count users (table_of base.now users) }
     ensures rows { Holders base.now result.rows }
 {
-    let users = trailer::part(base, Table::Users);
-    let x = trailer::part(base, Table::Exclusions);
-    let roles = trailer::role_count(base);
+    let users = base.part(Table::Users);
+    let x = base.part(Table::Exclusions);
+    let roles = base.role_count();
     let firsts = users.len() / 4;
     let mut found = Conflicts {
         kind: Kind::Holder,

@@ -52,9 +52,8 @@ impl Conflicts {
     {
         let kind = u8::from(self.kind);
         let mut next = at;
-        // By number, as the definition counts the rows: the number is written too.
-        for i in 0..self.firsts {
-            next = write_row(out, next, kind, i as u8, self.rows[i]);
+        for (i, row) in self.rows[..self.firsts].iter().enumerate() {
+            next = write_row(out, next, kind, i as u8, *row);
         }
         next
     }

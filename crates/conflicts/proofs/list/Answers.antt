@@ -36,14 +36,14 @@ module _ (b out : List ℕ) where
       let list = ap (λ (x : List ℕ). sets out 0 x) are ∙ written b out (rw (← count) enough) in
       rw (ok, ← count, le-ltb _ _ enough) (refl, wrote ∙ rw count list)
 
--- the records of the rows of the three kinds
-all_found : (b : List ℕ) {one two three : List ℕ} {k₁ k₂ k₃ n₁ n₂ n₃ : ℕ} → refusal_of b ≡ 0 →
-    Contradictions b one → Overlaps b two → Holders b three → (k₁ ≡ 1) × (k₂ ≡ 2) × (k₃ ≡ 3) →
-    n₁ ≡ record_count policies (table_of b policies) → n₂ ≡ record_count policies (table_of b policies) →
-    n₃ ≡ record_count users (table_of b users) →
+-- the records of the rows of the three kinds, of the base as it was accepted
+all_found : (b : List ℕ) {a one two three : List ℕ} {k₁ k₂ k₃ n₁ n₂ n₃ : ℕ} → a ≡ b → refusal_of b ≡ 0 →
+    Contradictions a one → Overlaps a two → Holders a three → (k₁ ≡ 1) × (k₂ ≡ 2) × (k₃ ≡ 3) →
+    n₁ ≡ record_count policies (table_of a policies) → n₂ ≡ record_count policies (table_of a policies) →
+    n₃ ≡ record_count users (table_of a users) →
     rows_records k₁ one n₁ ++ (rows_records k₂ two n₂ ++ rows_records k₃ three n₃) ≡ conflicts b
-all_found b ok first second third (k, l, m) n o p =
-    rw (k, l, m, n, o, p) (found_list b _ _ _ ok first second third)
+all_found b same ok first second third (k, l, m) n o p =
+    rw (k, l, m, n, o, p, same) (found_list b _ _ _ ok (rw same at first) (rw same at second) (rw same at third))
 
 -- three bytes for each record
 counted : (x y z : List ℕ) (l m n : ℕ) → 3 * l ≡ length x → 3 * m ≡ length y → 3 * n ≡ length z →
@@ -58,32 +58,32 @@ all_written out x y z a b c =
     let all = wrote_more (wrote_more (wrote_more (wrote_none out 0) x a) y b) z c in
     all.bytes ∙ ap (λ (r : List ℕ). sets out 0 r) (append_assoc x y z)
 
-pub returns-in_err-check : goal.returns-in_err-check
-returns-in_err-check c =
-    let (answer_is, kept) = refused c.args.base.now c.args.out.now c.in_err-check.ensures (refusal_pos _) in
+pub returns-in_err-base : goal.returns-in_err-base
+returns-in_err-base c =
+    let (answer_is, kept) = refused c.args.base.now c.args.out.now c.in_err-base.ensures.number (refusal_pos _) in
     (carried_on _ _ c.from_residual.ensures.1 ∙ answer_is, kept)
 
 pub returns-then-out-count : goal.returns-then-out-count
 returns-then-out-count c =
-    let ok = sym c.in_ok-check.ensures in
+    let ok = sym c.in_ok-base.ensures.number in
     let one = c.contradictions-one.ensures in
     let two = c.overlaps-two.ensures in
     let three = c.holders-three.ensures in
     let are =
-    all_found c.args.base.now ok one.rows two.rows three.rows (one.kind, two.kind, three.kind)
-    one.firsts two.firsts three.firsts in
+    all_found c.args.base.now c.in_ok-base.ensures.same ok one.rows two.rows three.rows
+    (one.kind, two.kind, three.kind) one.firsts two.firsts three.firsts in
     let size = counted _ _ _ _ _ _ c.count.ensures.0 c.count-2.ensures.0 c.count-3.ensures.0 in
     no_room c.args.base.now c.args.out.now ok (list_count _ _ _ size are) c.if-out-count.true
 
 pub returns : goal.returns
 returns c =
-    let ok = sym c.in_ok-check.ensures in
+    let ok = sym c.in_ok-base.ensures.number in
     let one = c.contradictions-one.ensures in
     let two = c.overlaps-two.ensures in
     let three = c.holders-three.ensures in
     let are =
-    all_found c.args.base.now ok one.rows two.rows three.rows (one.kind, two.kind, three.kind)
-    one.firsts two.firsts three.firsts in
+    all_found c.args.base.now c.in_ok-base.ensures.same ok one.rows two.rows three.rows
+    (one.kind, two.kind, three.kind) one.firsts two.firsts three.firsts in
     let size = counted _ _ _ _ _ _ c.count.ensures.0 c.count-2.ensures.0 c.count-3.ensures.0 in
     room c.args.base.now c.args.out.now ok (list_count _ _ _ size are) c.if-out-count.false are
     (all_written _ _ _ _ c.write-behind.ensures c.write-last.ensures c.write.ensures)

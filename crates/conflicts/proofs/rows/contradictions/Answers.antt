@@ -4,7 +4,7 @@ use lib.Dec.{lit<}
 use Rattle.folds.specs.Sets.{in_set}
 use Rattle.reader.specs.Tables.{contexts, policies, table_of}
 use Rattle.reader.specs.Rules.{policies_bad, refusal_of}
-use Rattle.reader.proofs.Accepted.{accepted, accepted_frame}
+use Rattle.reader.proofs.Accepted.{accepted}
 use Rattle.weights.proofs.Weigh.{policies_fine}
 use Rattle.related.specs.Slots.{named, Relations}
 use Rattle.related.proofs.Relating.{whole_contexts}
@@ -21,29 +21,26 @@ found : (b : List ℕ) {a c related rows : List ℕ} {names : ℕ} → refusal_o
 found b ok a_is c_is relations named_are are =
     contradictions_found b ok _ _ _ (rw c_is at relations) (rw a_is at named_are) (rw a_is at are)
 
-pub part-a-requires : goal.part-a-requires
-part-a-requires c = accepted_frame _ c.requires
-
 pub names-names-requires : goal.names-names-requires
-names-names-requires c = rw c.part-a.ensures (policies_fine _ c.requires)
-
-pub part-requires : goal.part-requires
-part-requires c = accepted_frame _ c.requires
+names-names-requires c = rw c.part-a.ensures.table (policies_fine _ c.part-a.ensures.accepted)
 
 pub relations-related-requires : goal.relations-related-requires
 relations-related-requires c =
-    rw c.part.ensures ((accepted _ c.requires).contexts, whole_contexts _ c.requires)
+    let ok = c.part.ensures.accepted in
+    rw c.part.ensures.table ((accepted _ ok).contexts, whole_contexts _ ok)
 
 pub fill-requires : goal.fill-requires
 fill-requires c =
-    let few = few_policies _ c.requires c.part-a.ensures in
-    let fine : policies_bad 8 256 c.part-a.result.now ≡ false = rw c.part-a.ensures (policies_fine _ c.requires) in
+    let a = c.part-a.ensures in
+    let few = few_policies _ a.accepted a.table in
+    let fine : policies_bad 8 256 c.part-a.result.now ≡ false = rw a.table (policies_fine _ a.accepted) in
     (lit< tt, (few, λ i l. search rules))
 
 pub invariant_of-found : goal.invariant_of-found
-invariant_of-found c = record { few = few_policies _ c.requires c.part-a.ensures }
+invariant_of-found c = record { few = few_policies _ c.part-a.ensures.accepted c.part-a.ensures.table }
 
 pub returns-clause-rows : goal.returns-clause-rows
 returns-clause-rows c =
-    found _ c.requires c.part-a.ensures c.part.ensures c.relations-related.ensures c.names-names.ensures
+    found _ c.part.ensures.accepted c.part-a.ensures.table c.part.ensures.table c.relations-related.ensures
+    c.names-names.ensures
     (record { row = λ i j l. let row = c.fill.ensures i 0 l in search rules })

@@ -3,7 +3,7 @@ use Rattle.std.proofs.Common.{ℕ, ◌≡◌, ◌/◌, false, List, length, rule
 use lib.Dec.{lit<}
 use Rattle.reader.specs.Tables.{hierarchy, policies, exclusions, table_of}
 use Rattle.reader.specs.Rules.{policies_bad, refusal_of}
-use Rattle.reader.proofs.Accepted.{accepted, accepted_frame}
+use Rattle.reader.proofs.Accepted.{accepted}
 use Rattle.reader.proofs.Frame.{roles_range, permissions_le}
 use Rattle.weights.proofs.Weigh.{policies_small, policies_fine}
 use Rattle.weights.proofs.Chains.{hierarchy_wider}
@@ -20,39 +20,32 @@ found : (b : List ℕ) {a h x covered apart rows : List ℕ} → refusal_of b �
 found b ok a_is h_is x_is covers excluded are =
     overlaps_found b ok _ _ _ (rw (a_is, h_is) at covers) (rw x_is at excluded) (rw a_is at are)
 
-pub part-a-requires : goal.part-a-requires
-part-a-requires c = accepted_frame _ c.requires
-
-pub part-requires : goal.part-requires
-part-requires c = accepted_frame _ c.requires
-
 pub cover_sets-covered-requires : goal.cover_sets-covered-requires
 cover_sets-covered-requires c =
-    let f = accepted _ c.requires in (
-      rw c.part.ensures (hierarchy_wider _ _ (roles_range _ f.frame).1 f.hierarchy),
-      rw c.part-a.ensures (policies_fine _ c.requires),
-      few_policies _ c.requires c.part-a.ensures,
+    let a = c.part-a.ensures in
+    let f = accepted _ a.accepted in (
+      rw c.part.ensures.table (hierarchy_wider _ _ (roles_range _ f.frame).1 f.hierarchy),
+      rw a.table (policies_fine _ a.accepted),
+      few_policies _ a.accepted a.table,
     )
-
-pub part-requires-2 : goal.part-requires-2
-part-requires-2 c = accepted_frame _ c.requires
 
 pub excluded_sets-apart-requires : goal.excluded_sets-apart-requires
 excluded_sets-apart-requires c =
-    let f = accepted _ c.requires in
+    let f = accepted _ c.part-2.ensures.accepted in
     let roles = (roles_range _ f.frame).1 in
-    rw c.part-2.ensures (exclusions_wider _ _ 8 16 _ roles (permissions_le _ f.frame) f.exclusions)
+    rw c.part-2.ensures.table (exclusions_wider _ _ 8 16 _ roles (permissions_le _ f.frame) f.exclusions)
 
 pub fill-requires : goal.fill-requires
 fill-requires c =
-    let few = few_policies _ c.requires c.part-a.ensures in
-    let fine : policies_bad 8 16 c.part-a.result.now ≡ false = rw c.part-a.ensures (policies_small _ c.requires) in
+    let a = c.part-a.ensures in
+    let few = few_policies _ a.accepted a.table in
+    let fine : policies_bad 8 16 c.part-a.result.now ≡ false = rw a.table (policies_small _ a.accepted) in
     (lit< tt, (few, λ i l. search rules))
 
 pub invariant_of-found : goal.invariant_of-found
-invariant_of-found c = record { few = few_policies _ c.requires c.part-a.ensures }
+invariant_of-found c = record { few = few_policies _ c.part-a.ensures.accepted c.part-a.ensures.table }
 
 pub returns-clause-rows : goal.returns-clause-rows
 returns-clause-rows c =
-    found _ c.requires c.part-a.ensures c.part.ensures c.part-2.ensures c.cover_sets-covered.ensures
-    c.excluded_sets-apart.ensures (record { row = λ i j l. let row = c.fill.ensures i 0 l in search rules })
+    found _ c.part.ensures.accepted c.part-a.ensures.table c.part.ensures.table c.part-2.ensures.table
+    c.cover_sets-covered.ensures c.excluded_sets-apart.ensures (record { row = λ i j l. let row = c.fill.ensures i 0 l in search rules })
