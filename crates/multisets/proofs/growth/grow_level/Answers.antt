@@ -11,9 +11,6 @@ level_start d n = rw (starts_none n) (omega arith)
 pub loop-r-init : goal.loop-r-init
 loop-r-init c = rw (level_start c.args.d c.args.n) c.requires.3
 
-pub loop-r-preserved : goal.loop-r-preserved
-loop-r-preserved c = let one : c.loop-r.r + 1 ≡ suc c.loop-r.r = omega arith in rw one c.grow_block.ensures
-
 pub returns : goal.returns
 returns c =
     let e : c.loop-r.r ≡ c.args.d = omega arith in
