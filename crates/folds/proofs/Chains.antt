@@ -86,13 +86,13 @@ module _ {F : Type 0} {g : Mut F (ℕ × Unit {0}) ℕ} {k : F} {s : Map (Range 
   fits_of_range top low = fits_from_yields_list s top road (rw (sum_chain f n) low)
 
 -- a test over the front of a list, by its places
-pub any_of_front : (p : ℕ → Bool) (xs : List ℕ) (n : ℕ) → n ≤ length xs →
-    list_any p (take n xs) ≡ any_below n (λ k. p (get_or xs k 0))
+pub any_of_front : {A : Type 0} (p : A → Bool) (xs : List A) (d : A) (n : ℕ) → n ≤ length xs →
+    list_any p (take n xs) ≡ any_below n (λ k. p (get_or xs k d))
 unfolding any_below
-any_of_front p xs zero h = refl
-any_of_front p xs (suc n) h =
-    rw add-one at (list_any_more p xs n 0 (omega arith))
-    ∙ ap (λ t. t || p (get_or xs n 0)) (any_of_front p xs n (omega arith))
+any_of_front p xs d zero h = refl
+any_of_front p xs d (suc n) h =
+    rw add-one at (list_any_more p xs n d (omega arith))
+    ∙ ap (λ t. t || p (get_or xs n d)) (any_of_front p xs d n (omega arith))
 
 -- a list in which no element differs from x has x alone
 pub none_other : (x : ℕ) (xs : List ℕ) {r : Bool} → r ≡ false → r ≡ list_any (λ y. not (eqb y x)) xs → (i : ℕ) →

@@ -7,4 +7,4 @@ use Rattle.resolution.proofs.is_repeated.Goals as goal
 
 pub returns : goal.returns
 unfolding repeated
-returns c = c.contains.ensures.value ∙ any_of_front (λ x. eqb x (get_or c.args.list.now c.args.k 0)) _ _ (omega arith)
+returns c = c.contains.ensures.value ∙ any_of_front (λ x. eqb x (get_or c.args.list.now c.args.k 0)) _ 0 _ (omega arith)

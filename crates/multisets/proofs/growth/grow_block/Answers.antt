@@ -1,5 +1,5 @@
 -- Each multiset of the block gets its row from the one without its largest role, and is pushed on.
-use Rattle.std.proofs.Common.{ℕ, suc, ◌+◌, ◌*◌, ◌≤◌, ◌<◌, List, ◌≡◌, ap, ◌∙◌, length, get_or, leb, arith}
+use Rattle.std.proofs.Common.{ℕ, suc, ◌+◌, ◌*◌, ◌≤◌, ◌<◌, List, ◌≡◌, length, get_or, leb, arith}
 use mathlib.Core.Logic.{⊎_elim}
 use native.Mathlib.Nat.{lt_of_lt_of_le}
 use borrow.Author.Tests.{leb-true, leb-false}
@@ -7,48 +7,12 @@ use Rattle.folds.proofs.Bools.{met_or_not}
 use Rattle.multisets.specs.Ranks.{starts, first}
 use Rattle.multisets.specs.Values.{Written}
 use Rattle.multisets.specs.Ends.{NextTable, Filled}
-use Rattle.multisets.specs.Levels.{Ups, Rows, Fixed, Kept, Grown, Pushing}
+use Rattle.multisets.specs.Levels.{Ups, Rows, Grown, Pushing}
 use Rattle.multisets.proofs.Blocks.{block, starts_le}
 use Rattle.multisets.proofs.Places.{first_le, place_lt}
 use Rattle.multisets.proofs.Rows.{step_most, row_made, rows_more, rows_past, row_room}
 use Rattle.multisets.proofs.growth.grow_block.Invariants.{Block, Turn}
 use Rattle.multisets.proofs.growth.grow_block.Goals as goal
-
--- by what is read
-block_of : {d n r less here1 here2 next1 next2 last : ℕ} {fixed kept : List ℕ} → n ≤ 4 → d ≤ 8 → r < d →
-    (less ≡ first d n) × (less ≤ 3003) → (here1 ≡ first d (n + 1)) × (here1 ≤ 3003) →
-    (here2 ≡ starts (n + 1) r) × (here2 ≤ 3003) → (next1 ≡ first d (n + 2)) × (next1 ≤ 3003) →
-    (next2 ≡ starts (n + 1) r) × (next2 ≤ 3003) → (last ≡ starts n (r + 1)) × (last ≤ 3003) →
-    Fixed n r fixed → Kept r kept → Block d n r less (here1 + here2) (next1 + next2) last fixed kept
-block_of {d} {n} {r} few most role less h1 h2 n1 n2 last fixed kept =
-    let two : n + 2 ≡ suc (suc n) = omega arith in
-    let one : n + 1 ≡ suc n = omega arith in
-    let first_here = rw one at h1.0 in
-    let start_here = rw one at h2.0 in
-    let first_next = rw two at n1.0 in
-    let start_next = rw one at n2.0 in
-    record {
-      most = most;
-      few = few;
-      role = role;
-      less_is = less.0;
-      here_is = omega (arith, first_here, start_here);
-      next_is = omega (arith, first_next, start_next);
-      last_is = last.0 ∙ ap (starts n) (omega arith);
-      less_most = less.1;
-      here_most = omega (arith, h1.1, h2.1);
-      last_most = last.1;
-      fixed_is = fixed;
-      kept_is = kept;
-    }
-
-block_start : {d n r less here next last : ℕ} {fixed kept nexts t ends from : List ℕ} →
-    Block d n r less here next last fixed kept → Grown d nexts (first d (suc n) + starts (suc n) r) t ends from →
-    Turn d n r less here next last fixed kept nexts 0 t ends from
-block_start {d} {n} {r} {here = here} b g =
-    let h = b.here_is in
-    let e : here + 0 ≡ first d (suc n) + starts (suc n) r = omega arith in
-    record { block = b; grown = rw e g }
 
 -- multiset j of the block, of plain values
 module _ {d n r less here next last : ℕ} {fixed kept nexts : List ℕ} {j : ℕ} {t ends from : List ℕ}
@@ -154,13 +118,6 @@ block_end {d} {n} {r} {here = here} {j = j} turn w l =
     let c = turn.block.last_is in
     let e : here + j ≡ first d (suc n) + starts (suc n) (suc r) = omega (arith, block n r) in
     rw e at turn.grown
-
-pub loop-j-init : goal.loop-j-init
-loop-j-init c =
-    let p = c.requires in
-    let b = block_of p.0 p.1 p.2 c.first_in-less.ensures c.first_in.ensures c.start_in.ensures c.first_in-2.ensures
-    c.start_in-2.ensures c.start_in-j-end.ensures c.fixed_steps-fixed.ensures c.kept_steps-kept.ensures in
-    block_start b p.4
 
 pub ups_of-up-requires : goal.ups_of-up-requires
 ups_of-up-requires c = asked c.loop-j.invariant c.loop-j-test.true
