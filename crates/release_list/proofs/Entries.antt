@@ -2,7 +2,6 @@
 use Prim.Native.Nat.{ℕ, suc, ◌+◌, ◌*◌, ◌<◌, ◌≤◌}
 use mathlib.Core.Path.{◌≡◌, refl, sym, ap, ◌∙◌}
 use mathlib.Core.List.{List, [], ◌∷◌, ◌++◌, append-nil, append_assoc}
-use native.Mathlib.Nat.{add-zero}
 use native.Mathlib.Omega.{arith}
 use lib.ListN.{length, get_or, length-append}
 use Rattle.folds.specs.Below.{join_below}
@@ -46,10 +45,6 @@ pub record EntriesYet (g l : List ℕ) (at : ℕ) (m : List ℕ) (next : ℕ) (r
   pub done : List ℕ
   pub put : Written done l at next m
   pub whole : done ++ standing_text rest ≡ standing_text g
-
-pub none_put : {g rest : List ℕ} (l : List ℕ) (at : ℕ) → rest ≡ g → EntriesYet g l at l at rest
-none_put l at e =
-    record { done = []; put = record { place = sym (add-zero at); bytes = refl }; whole = ap standing_text e }
 
 module _ {g l m rest : List ℕ} {at next : ℕ} (yet : EntriesYet g l at m next rest) where
   pub all_put : length rest < 2 → Written (standing_text g) l at next m

@@ -1,12 +1,6 @@
-use Rattle.std.proofs.Common.{refl, ◌∙◌}
-use Rattle.release_list.proofs.Entries.{none_put, next_room, one_put, all_put}
+use Rattle.std.proofs.Common.{◌∙◌}
+use Rattle.release_list.proofs.Entries.{next_room, one_put, all_put}
 use Rattle.release_list.proofs.text.Page.put_entries.Goals as goal
-
-pub loop-entry-init : goal.loop-entry-init
-loop-entry-init c =
-    let items = c.chunks_exact-entry-items.ensures in
-    let given = c.into_iter-entry-iterator.ensures.into_iter_gives in
-    (none_put _ _ (cc), cc, refl)
 
 pub put_entry-requires : goal.put_entry-requires
 put_entry-requires c =

@@ -4,9 +4,6 @@ use Rattle.release_list.specs.Text.{decimal}
 use Rattle.release_list.proofs.Stores.{joined, same_size}
 use Rattle.release_list.proofs.text.Page.put_number.Goals as goal
 
-pub put-requires : goal.put-requires
-put-requires c = omega (arith, c.requires, length-append c.args.words.now (decimal c.args.n))
-
 pub put_decimal-requires : goal.put_decimal-requires
 put_decimal-requires c =
     omega (
