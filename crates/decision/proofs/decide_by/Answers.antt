@@ -22,9 +22,6 @@ returns-in_err-asking_refusal c =
     ∙ list_decided c.args.base.now c.args.at c.args.permission c.args.list.now c.args.group.now ok legal
     (asking_refused _ c.args.at _ c.args.list.now c.args.group.now ok c.in_err-asking_refusal.ensures (refusal_pos _))
 
-pub asking_refusal-requires : goal.asking_refusal-requires
-asking_refusal-requires c = (lent_none _ _ (sym c.in_ok-lent_refusal.ensures)).0
-
 pub setting_by-s-requires : goal.setting_by-s-requires
 setting_by-s-requires c =
     let (ok, legal) = lent_none _ _ (sym c.in_ok-lent_refusal.ensures) in

@@ -13,7 +13,6 @@ use Rattle.weights.specs.declared.Context.{Context}
 use Rattle.weights.specs.Weights.{weight}
 use Rattle.weights.specs.Setting.{AreWeights}
 use Rattle.weights.specs.Acting.{may_act}
-use Rattle.weights.proofs.Choice.{vacant}
 use Rattle.weights.proofs.Weigh.{weights_le}
 use Rattle.decision.specs.Conditions.{permission_holds}
 use Rattle.decision.specs.Groups.{entry_count, entry_role, sum_of, roles_of, some_weightless, group_refusal}
