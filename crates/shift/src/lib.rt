@@ -1,15 +1,15 @@
 // How much one weight can shift: the bound on what a changed weight of one policy does to a group's sum of weights.
 #![tactic(auto)]
 
-ghost use Rattle.std.specs.Prelude.{◌≡◌, ℕ, ◌*◌, ◌≤◌, ◌<◌, length};
+ghost use Rattle.std.specs.Prelude.{◌≡◌, ◌*◌, ◌≤◌, ◌<◌};
 ghost use Rattle.reader.specs.Tables.{policies, record_count};
 ghost use Rattle.reader.specs.Fields.{policy_role, policy_weight};
 ghost use Rattle.reader.specs.Refusals.{answer_from};
-ghost use Rattle.decision.specs.Groups.{entry_count, entry_role};
 ghost use Rattle.shift.specs.Shift.{distance, change_refused, bound_answer};
 ghost use Rattle.shift.specs.Counting.{at_or_above, entries_at_or_above};
 
 use decision::groups::Entry;
+use decision::members::Members;
 use reader::{Refusal, Refused, Table};
 use weights::acting::Acting;
 
@@ -20,12 +20,12 @@ pub fn bound(base: &[u8], policy: u32, weight: u32, group: &[u8]) -> Result<u32,
 {
     let base = reader::accept(base)?;
     let acting = Acting::of(&base);
-    decision::members_refusal(&acting, group)?;
+    let members = Members::of(&acting, group)?;
     let a = base.part(Table::Policies);
     if change_refused(a.len() / 8, policy, weight) {
         return Err(Refusal::Change.into());
     }
-    Ok(bound_of(a, acting.juniors(), policy as usize, weight as u8, group))
+    Ok(bound_of(a, acting.juniors(), policy as usize, weight as u8, &members))
 }
 
 // Refusal 21, with so many policies.
@@ -35,27 +35,23 @@ fn change_refused(count: usize, policy: u32, weight: u32) -> bool
     count <= policy as usize || !(1..=5).contains(&weight)
 }
 
-// The bound, by the table A, the juniors of each role and a group of at most 6 entries, in roles below 8.
-fn bound_of(a: &[u8], juniors: [u8; 8], policy: usize, weight: u8, group: &[u8]) -> u32
-    requires { (policy < record_count policies a.now) ×
-        (policy_role a.now policy < 8) ×
-        (length group.now ≤ 12) ×
-        ((k : ℕ) → k < entry_count group.now → entry_role group.now k < 8) }
+// The bound, by the table A, the juniors of each role and who stands in the group.
+fn bound_of(a: &[u8], juniors: [u8; 8], policy: usize, weight: u8, members: &Members<'_>) -> u32
+    requires { (policy < record_count policies a.now) × (policy_role a.now policy < 8) }
     ensures { result ≡ distance (policy_weight a.now policy) weight
-        * entries_at_or_above juniors (policy_role a.now policy) group.now }
+        * entries_at_or_above juniors (policy_role a.now policy) members.now }
 {
     let at = 8 * policy;
     let difference = a[at + 2].abs_diff(weight) as u32;
-    difference * entries_at_or_above(juniors, a[at], group)
+    difference * entries_at_or_above(juniors, a[at], members)
 }
 
 // How many entries act in this role or in a senior of it.
-fn entries_at_or_above(juniors: [u8; 8], role: u8, group: &[u8]) -> u32
-    requires { (role < 8) ×
-        (length group.now ≤ 12) ×
-        ((k : ℕ) → k < entry_count group.now → entry_role group.now k < 8) }
-    ensures { (result ≡ entries_at_or_above juniors role group.now) × (result ≤ 6) }
+fn entries_at_or_above(juniors: [u8; 8], role: u8, members: &Members<'_>) -> u32
+    requires { role < 8 }
+    ensures { (result ≡ entries_at_or_above juniors role members.now) × (result ≤ 6) }
 {
+    let group = members.bytes();
     (0..group.len() / 2)
         .filter(|&k| is_at_or_above(juniors, role, Entry::of(group, k).role))
         .count() as u32

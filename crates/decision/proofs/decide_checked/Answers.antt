@@ -1,7 +1,7 @@
 -- `decide_checked` meets its contract: 12 to 15 by `members_refusal`, then 16 and 17 by the weights.
 use Rattle.std.proofs.Common.{ℕ, Bool, true, false, List, length, get_or, ◌≡◌, ◌<◌, ◌≤◌}
 use mathlib.Core.Bool.{cond}
-use mathlib.Core.Path.{sym, ◌∙◌}
+use mathlib.Core.Path.{ap, sym, ◌∙◌}
 use native.Mathlib.Nat.{lt_of_lt_of_le}
 use Rattle.folds.proofs.Bools.{refused, unrefused}
 use Rattle.reader.specs.Tables.{clauses, role_count, table_of, user_count}

@@ -93,17 +93,17 @@ returns-in_err-base c =
     carried_on _ _ c.from_residual.ensures.1
     ∙ answered_refused _ _ (by_check _ _ _ _ c.in_err-base.ensures.number (refusal_pos _)) (refusal_pos _)
 
-pub returns-in_err-members_refusal : goal.returns-in_err-members_refusal
-returns-in_err-members_refusal c =
+pub returns-in_err-members : goal.returns-in_err-members
+returns-in_err-members c =
     let e = c.in_ok-base.ensures in
-    let is = members_same c.args.group.now (c.of-acting.ensures ∙ e.same) c.in_err-members_refusal.ensures in
-    carried_on _ _ c.from_residual-in_err-members_refusal.ensures.1
+    let is = members_same c.args.group.now (c.of-acting.ensures ∙ e.same) c.in_err-members.ensures.number in
+    carried_on _ _ c.from_residual-in_err-members.ensures.1
     ∙ answered_refused _ _ (by_members _ _ _ _ (sym e.number) is (refusal_pos _)) (refusal_pos _)
 
 pub returns-then-change_refused : goal.returns-then-change_refused
 returns-then-change_refused c =
     let e = c.in_ok-base.ensures in
-    let k = known e.number (c.of-acting.ensures ∙ e.same) c.in_ok-members_refusal.ensures in
+    let k = known e.number (c.of-acting.ensures ∙ e.same) c.in_ok-members.ensures.number in
     let table = c.part-a.ensures.table ∙ ap (λ b. table_of b policies) e.same in
     let bad = by_table c.args.policy c.args.weight table c.if-change_refused.ensures in
     carried_on Change (Err _) c.into.ensures ∙ answered_refused _ _ (by_21 _ _ _ _ k bad) (suc-ne-zero 20)
@@ -114,19 +114,19 @@ overflow_cast-weight c = let most = small _ c.args.policy c.args.weight (sym c.i
 pub bound_of-requires : goal.bound_of-requires
 bound_of-requires c =
     let e = c.in_ok-base.ensures in
-    let k = known e.number (c.of-acting.ensures ∙ e.same) c.in_ok-members_refusal.ensures in
+    let k = known e.number (c.of-acting.ensures ∙ e.same) c.in_ok-members.ensures.number in
     let table = c.part-a.ensures.table ∙ ap (λ b. table_of b policies) e.same in
     let good = by_table c.args.policy c.args.weight table c.if-change_refused.ensures in
     let (there, low) = in_table _ _ _ k.ok table (change_allowed _ _ c.args.weight good).0 in
-    (there, low, k.few, k.low)
+    (there, low)
 
 pub returns : goal.returns
 returns c =
     let e = c.in_ok-base.ensures in
     let same = c.of-acting.ensures ∙ e.same in
-    let k = known e.number same c.in_ok-members_refusal.ensures in
+    let k = known e.number same c.in_ok-members.ensures.number in
     let table = c.part-a.ensures.table ∙ ap (λ b. table_of b policies) e.same in
     let good = by_table c.args.policy c.args.weight table c.if-change_refused.ensures in
     answered_done_lem _ _ (by_none _ _ _ _ k good)
     (bound_by _ _ _ c.args.policy c.args.weight c.args.group.now table (rw same at c.juniors.ensures)
-    k.low c.bound_of.ensures)
+    k.low (rw c.in_ok-members.ensures.same at c.bound_of.ensures))

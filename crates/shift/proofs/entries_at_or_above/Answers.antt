@@ -1,5 +1,5 @@
 -- `entries_at_or_above` meets its contract: of the numbers of at most 6 entries those in such roles are counted.
-use Rattle.std.proofs.Common.{ℕ, Bool, List, ◌≡◌, ◌≤◌, ◌/◌, ◌∙◌, length, rules, tests, arith}
+use Rattle.std.proofs.Common.{ℕ, Bool, List, ◌≡◌, ◌≤◌, ◌/◌, ap, ◌∙◌, length, rules, tests, arith}
 use Rattle.std.proofs.lemmas.Iterator.{YieldsList-from_range}
 use Rattle.std.proofs.lemmas.Iterator.Consumers.{YieldsList-from_filter, count_from_yields_List}
 use Rattle.folds.specs.Below.{count_below}
@@ -19,9 +19,13 @@ at_most p n is few = let most = count_le p n in omega arith
 pub returns : goal.returns
 unfolding entries_at_or_above
 returns c =
+    let g = c.bytes-group.result.now in
+    let few = c.bytes-group.ensures.seated.few in
+    let same = c.bytes-group.ensures.bytes in
     let is = count_from_yields_List _ _ c.count.ensures.ran
-    (YieldsList-from_filter _ (counts c.args.juniors c.args.role c.args.group.now)
-    (YieldsList-from_range 0 (length c.args.group.now / 2) (length c.args.group.now / 2) (cc) (omega arith))
+    (YieldsList-from_filter _ (counts c.args.juniors c.args.role g)
+    (YieldsList-from_range 0 (length g / 2) (length g / 2) (cc) (omega arith))
     c.filter.ensures.closure (λ x r q k. search (rules, tests)))
-    ∙ count_chain (counts c.args.juniors c.args.role c.args.group.now) (length c.args.group.now / 2) in
-    (is, at_most (counts c.args.juniors c.args.role c.args.group.now) (length c.args.group.now / 2) is (omega arith))
+    ∙ count_chain (counts c.args.juniors c.args.role g) (length g / 2) in
+    (is ∙ ap (entries_at_or_above c.args.juniors c.args.role) same,
+    at_most (counts c.args.juniors c.args.role g) (length g / 2) is (rw same (omega arith)))
