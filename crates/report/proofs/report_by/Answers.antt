@@ -11,9 +11,6 @@ returns-in_err-lent_refusal-clause-promise c =
     refused_as (carried_on _ _ c.from_residual.ensures.1)
     (reported_refused _ _ _ _ (refused_list _ _ _ _ c.in_err-lent_refusal.ensures (refusal_pos _)) (refusal_pos _))
 
-pub fitting_refusal-requires : goal.fitting_refusal-requires
-fitting_refusal-requires c = (lent_none c.args.list.now c.args.base.now (sym c.in_ok-lent_refusal.ensures)).0
-
 pub returns-in_err-fitting_refusal-clause-promise : goal.returns-in_err-fitting_refusal-clause-promise
 returns-in_err-fitting_refusal-clause-promise c =
     let b = c.args.base.now in

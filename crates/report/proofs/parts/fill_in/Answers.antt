@@ -11,7 +11,7 @@ use Rattle.multisets.specs.Ranks.{first}
 use Rattle.multisets.specs.Ends.{NextTable}
 use Rattle.report.specs.Smallest.{Deciding, smallest_by}
 use Rattle.report.specs.Report.{releasable}
-use Rattle.report.specs.Parts.{PartFor, Filled, UsersOf}
+use Rattle.report.specs.Parts.{PartFor, Filled}
 use Rattle.report.proofs.Filling.{filled_none, filled_more, count_part}
 use Rattle.report.proofs.parts.fill_in.Goals as goal
 
@@ -36,9 +36,6 @@ bit : (t : Bool) {n : ℕ} → n ≡ from_bool t → n ≤ 1
 bit true e = omega arith
 bit false e = omega arith
 
-same_users : {b nexts nexts' : List ℕ} → nexts' ≡ nexts → UsersOf b nexts → UsersOf b nexts'
-same_users e u = rw e u
-
 pub role_count-requires : goal.role_count-requires
 role_count-requires g c = (framed _ (accepted_frame _ c.requires.0.settled.accepted)).long
 
@@ -50,11 +47,6 @@ new-tables-requires g c =
 
 pub permission_count-p-end-requires : goal.permission_count-p-end-requires
 permission_count-p-end-requires g c = accepted_frame _ c.requires.0.settled.accepted
-
-pub part_for-part-requires : goal.part_for-part-requires
-part_for-part-requires g c =
-    let v = c.loop-p.invariant in
-    (omega arith, (c.requires.0, same_users v.nexts c.requires.1, v.roles, omega arith))
 
 pub overflow_add-count : goal.overflow_add-count
 overflow_add-count g c =

@@ -1,35 +1,16 @@
 -- `part_for` meets its contract: the search's answer is a smallest granted group, or that there is none.
-use Rattle.std.proofs.Common.{ℕ, ◌*◌, ◌-◌, ◌≤◌, Bool, List, Option, Some, None, IfSome, ◌≡◌, ap, ◌∙◌, length, replicate}
-use Rattle.std.proofs.Common.{arith, rules}
+use Rattle.std.proofs.Common.{ℕ, List, Option, ◌≡◌}
+use Rattle.std.proofs.Common.{rules}
 use native.Mathlib.Nat.{lt_of_lt_of_le}
-use Rattle.std.proofs.Math.ListN.{length-append, length-replicate}
 use Rattle.reader.proofs.Frame.{permissions_le}
 use Rattle.reader.proofs.Accepted.{accepted_frame}
 use Rattle.weights.specs.Setting.{rules_of}
 use Rattle.seek.specs.declared.Found.{Found}
-use Rattle.seek.specs.Search.{Answered}
 use Rattle.seek.specs.Answer.{AnsweredWith}
-use Rattle.multisets.specs.Rising.{bytes_of}
 use Rattle.fewest.specs.Search.{holds_with, Seeking}
 use Rattle.report.proofs.Shown.{nobody}
-use Rattle.report.proofs.Turned.{bytes_length}
 use Rattle.report.proofs.Part.{seeking, part_with}
 use Rattle.report.proofs.parts.part_for.Goals as goal
-
-module _ {sets w : List ℕ} {placed last : ℕ} {condition : ℕ → ℕ → ℕ → Bool} where
-  -- twelve bytes are shown
-  twelve : {n : ℕ} {bytes : List ℕ} → Answered sets w placed condition last n bytes → n ≤ 6 → length bytes ≡ 12
-  twelve a few =
-      let g = a.group in
-      let many = a.sought.many few in
-      ap length (a.shown few)
-      ∙ length-append (bytes_of g) (replicate (12 - 2 * length g) 255)
-      ∙ rw (bytes_length g, length-replicate {A = ℕ} (12 - 2 * length g) 255) (omega arith)
-
-  fits : (o : Option Found) → AnsweredWith sets w placed condition last o →
-      IfSome o (λ f. (f.n ≤ 6) × (length f.group ≡ 12))
-  fits None a = tt
-  fits (Some f) a = (a.some, twelve a.answered a.some)
 
 -- the same table K and the same number of roles
 module _ {k k' : List ℕ} (table : k ≡ k') where
@@ -61,9 +42,6 @@ fewest-requires g c =
         (users.sets, users.ends),
       ),
     )
-
-pub part_of-requires : goal.part_of-requires
-part_of-requires g c = let users = c.requires.1 in fits _ (c.fewest.ensures.2 users.sets users.ends)
 
 pub returns : goal.returns
 returns g c =
