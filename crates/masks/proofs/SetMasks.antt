@@ -27,7 +27,7 @@ use Rattle.std.specs.List.{fold, between}
 use Rattle.std.proofs.lemmas.Slice.{between_to_end}
 use Rattle.std.proofs.lemmas.List.{length-take, get_or-take, get_or-drop}
 use Rattle.std.proofs.Common.{length-drop}
-use Rattle.masks.specs.Sets.{RoleCounts, Without, spared, spared_from, role_fits, WithinReach}
+use Rattle.masks.specs.Sets.{Without, spared, spared_from, role_fits, WithinReach}
 use Rattle.masks.specs.Sets.{Doubled, SetsMarked, NumbersFit, SetsFor}
 
 -- clauses that are left where a role is in `start`, or else those that don't ask for it
@@ -208,17 +208,6 @@ module _ (own : ℕ) (roles w : List ℕ) (start end : ℕ) where
 pub role_num_le : (set : ℕ) → role_num set ≤ 8
 unfolding role_num
 role_num_le set = count_le (in_set set) 8
-
--- the sets below `end` are counted
-pub counted_all : {end n : ℕ} (was counts : List ℕ) → length was ≡ 256 → end ≤ 256 → length (take end was) ≤ n
-    → Changed (λ v count. role_num v) n (take end was) counts → RoleCounts end (counts ++ drop end was)
-counted_all {end} was counts size l e c =
-    let s = c.size in
-    let t = length-take end was in
-    let long : length counts ≡ end = omega arith in
-    record {
-      each = λ v m. before_end was counts end v long m ∙ c.done v (omega arith);
-    }
 
 -- the count at a set
 pub counted : (counts : List ℕ) {at set count : ℕ} → at ≡ set → count ≡ get_or counts at 0

@@ -1,7 +1,7 @@
 -- The masks tell the permission's condition, so the search by masks finds the answer.
-use Rattle.std.proofs.Common.{rules, refl, sym, ◌∙◌}
+use Rattle.std.proofs.Common.{refl, sym, ◌∙◌}
 use Rattle.fewest.proofs.Asked.{no_row, fewest_is}
-use Rattle.fewest.proofs.Seek.{masks_ready, search_ready, telling, no_clause, no_weight, last_sum}
+use Rattle.fewest.proofs.Seek.{masks_ready, telling, no_clause, no_weight}
 use Rattle.fewest.proofs.fewest.Goals as goal
 use Rattle.fewest.proofs.fewest.Goals.{then-own-eq0-via-then-own-eq0}
 use Rattle.fewest.proofs.fewest.Goals.{then-own-eq0-via-else-own-eq0+then-weighed-start-eq0}
@@ -35,17 +35,6 @@ returns-in_err-last g c =
         answered = no_row told c.weighed-weighed.ensures c.requires.0.few c.in_err-last.ensures;
         some = tt;
       },
-    )
-
-pub search-requires : goal.search-requires
-search-requires g c =
-    let last = c.in_ok-last.ensures in (
-      search rules,
-      (
-        last.within,
-        last_sum c.requires.0 c.weighed-weighed.ensures c.masks_for-rows.ensures last,
-        search_ready c.requires.0 c.weighed-weighed.ensures c.masks_for-rows.ensures c.wide.ensures.0 c.requires.1.1,
-      ),
     )
 
 pub returns : goal.returns
