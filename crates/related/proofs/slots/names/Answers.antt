@@ -6,15 +6,13 @@ use Rattle.std.specs.List.{range_with_len}
 use Rattle.folds.proofs.Chains.{any_chain}
 use Rattle.folds.proofs.Sets.{in_none}
 use Rattle.reader.specs.Fields.{policy_context}
-use Rattle.reader.proofs.Accepted.{policy_fine}
 use Rattle.related.specs.Slots.{slot_of, named}
 use Rattle.related.proofs.Chains.{serves_fold, in_gathered}
 use Rattle.related.proofs.slots.names.Goals as goal
 
 pub fold-requires-clause-callable : goal.fold-requires-clause-callable
 fold-requires-clause-callable c =
-    serves_fold (length c.args.a.now / 8) (cc) (λ s i q k. search rules)
-    (λ s i l. let fine = policy_fine 8 256 c.args.a.now i c.requires l in search rules)
+    serves_fold (length c.args.a.now / 8) (cc) (λ s i q k. search rules) (λ s i l. search rules)
 
 pub returns : goal.returns
 unfolding named
