@@ -9,15 +9,10 @@ use borrow.Author.Tests.{lt-ltb, le-ltb}
 use Rattle.folds.proofs.Tests.{any_each}
 use lib.ListN.{length}
 use lib.Dec.{eqb, lit<}
-use Rattle.reader.specs.Tables.{limit, users, policies, exclusions, record_count, table_of}
+use Rattle.reader.specs.Tables.{users, policies, exclusions, record_count, table_of}
 use Rattle.reader.specs.Rules.{exclusion_bad, exclusions_bad, refusal_of}
-use Rattle.reader.proofs.Frame.{record_count_lem, count_limit}
-use Rattle.reader.proofs.Accepted.{accepted, exclusion_fine}
+use Rattle.reader.proofs.Accepted.{exclusion_fine, records_le}
 use Rattle.reader.specs.Fields.{exclusion_kind, exclusion_first, exclusion_second}
-
--- a table of an accepted base has at most its limit of records
-pub records_le : (b : List ℕ) → refusal_of b ≡ 0 → (t : ℕ) → t < 7 → record_count t (table_of b t) ≤ limit t
-records_le b ok t l = let f = (accepted b ok).frame in rw (record_count_lem b f t l) (count_limit b f t l)
 
 -- at most 64 policies, users and exclusions: the rows and their bits
 module _ (b : List ℕ) (ok : refusal_of b ≡ 0) {t : List ℕ} where

@@ -1,12 +1,14 @@
 // What policies cover, and which permissions exclude each other.
-ghost use Rattle.std.specs.Prelude.{◌≡◌, false, ◌&&◌, ◌||◌, ℕ, ◌/◌, ◌≤◌, ◌<◌, List, length, get_or, eqb};
+ghost use Rattle.std.specs.Prelude.{◌≡◌, false, ◌&&◌, ◌||◌, ℕ, ◌/◌, ◌<◌, List, length, get_or, eqb};
 ghost use Rattle.folds.specs.Sets.{in_set};
-ghost use Rattle.reader.specs.Rules.{hierarchy_bad, policies_bad, exclusions_bad};
+ghost use Rattle.reader.specs.Tables.{policies, record_count};
+ghost use Rattle.reader.specs.Rules.{hierarchy_bad, exclusions_bad};
 ghost use Rattle.weights.specs.Setting.{Juniors};
 ghost use Rattle.conflicts.specs.Conflicts.{covers, excludes};
 ghost use Rattle.conflicts.specs.Rows.{Covers, Excluded};
 
 use crate::filling;
+use reader::Policies;
 use weights::sets;
 
 // The set of the roles that have j among their juniors.
@@ -20,13 +22,13 @@ fn seniors_of(juniors: &[u8; 8], j: u8) -> u8
 }
 
 // The set of the roles that policy i covers.
-fn cover(a: &[u8], i: usize, juniors: &[u8; 8]) -> u8
-    requires { (i < length a.now / 8) × (policies_bad 8 256 a.now ≡ false) }
+fn cover(a: &Policies<'_>, i: usize, juniors: &[u8; 8]) -> u8
+    requires { i < record_count policies a.now }
     ensures { (h : List ℕ) → Juniors h juniors.now → (s : ℕ) → s < 8 → in_set result s ≡ covers h a.now i s }
 {
-    let role = a[8 * i];
+    let role = a.role(i);
     let own = sets::role_bit(role);
-    if a[8 * i + 3] == 1 {
+    if a.type_of(i) == 1 {
         own | seniors_of(juniors, role)
     } else {
         own
@@ -34,13 +36,13 @@ fn cover(a: &[u8], i: usize, juniors: &[u8; 8]) -> u8
 }
 
 // Inner: the sets of the roles that the policies cover.
-pub fn cover_sets(h: &[u8], a: &[u8]) -> [u8; 64]
-    requires { (hierarchy_bad 8 h.now ≡ false) × (policies_bad 8 256 a.now ≡ false) × (length a.now / 8 ≤ 64) }
+pub fn cover_sets(h: &[u8], a: &Policies<'_>) -> [u8; 64]
+    requires { hierarchy_bad 8 h.now ≡ false }
     ensures { Covers h.now a.now result }
 {
     let juniors = weights::seniority::juniors(h);
     let mut sets = [0; 64];
-    filling::fill(&mut sets, a.len() / 8, |i| cover(a, i, &juniors));
+    filling::fill(&mut sets, a.count(), |i| cover(a, i, &juniors));
     sets
 }
 

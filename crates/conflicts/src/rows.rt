@@ -1,14 +1,13 @@
 // The conflicts of each kind as rows of bits, a row for each first.
 ghost use Rattle.std.specs.Prelude.{◌≡◌, false, ◌&&◌, ◌⊎◌, ℕ, Bool, ◌+◌, ◌*◌, ◌/◌, ◌≤◌, ◌<◌, length, get_or, ltb};
 ghost use Rattle.folds.specs.Sets.{in_set};
-ghost use Rattle.reader.specs.Rules.{policies_bad};
 ghost use Rattle.reader.specs.Tables.{users, policies, table_of, record_count};
 ghost use Rattle.conflicts.specs.Conflicts.{disagree, holds_both};
 ghost use Rattle.conflicts.specs.Kinds.{kind_number};
 ghost use Rattle.conflicts.specs.Rows.{related_by, contradict_by, overlap_by, Contradictions, Overlaps, Holders};
 
 use crate::{covers, filling};
-use reader::{Base, Table, codes};
+use reader::{Base, Policies, Table, codes};
 use related::slots;
 use weights::sets;
 
@@ -56,13 +55,13 @@ fn row<F: Fn(usize) -> bool>(from: usize, end: usize, test: F) -> u64
 }
 
 // Policies i and j have equal role and permission, and different weight or type.
-fn policies_disagree(a: &[u8], i: usize, j: usize) -> bool
-    requires { (8 * i + 8 ≤ length a.now) × (8 * j + 8 ≤ length a.now) }
+fn policies_disagree(a: &Policies<'_>, i: usize, j: usize) -> bool
+    requires { (i < record_count policies a.now) × (j < record_count policies a.now) }
     ensures { result ≡ disagree a.now i j }
 {
-    let p = 8 * i;
-    let q = 8 * j;
-    a[p] == a[q] && a[p + 1] == a[q + 1] && (a[p + 2] != a[q + 2] || a[p + 3] != a[q + 3])
+    a.role(i) == a.role(j)
+        && a.permission(i) == a.permission(j)
+        && (a.weight(i) != a.weight(j) || a.type_of(i) != a.type_of(j))
 }
 
 // The context numbers x and y are related, by the rows of related slots.
@@ -76,33 +75,36 @@ fn related_by(rows: &[u32; 17], x: u8, y: u8) -> bool
 }
 
 // Kind 1 for the policies i and j, of which i comes first.
-fn contradict_by(rows: &[u32; 17], a: &[u8], i: usize, j: usize) -> bool
-    requires { (i < j) × (j < length a.now / 8) × (policies_bad 8 256 a.now ≡ false) }
+fn contradict_by(rows: &[u32; 17], a: &Policies<'_>, i: usize, j: usize) -> bool
+    requires { (i < j) × (j < record_count policies a.now) }
     ensures { result ≡ contradict_by rows.now a.now i j }
 {
-    policies_disagree(a, i, j) && related_by(rows, a[8 * i + 4], a[8 * j + 4])
+    policies_disagree(a, i, j) && related_by(rows, a.context(i), a.context(j))
 }
 
-fn contradict_row(rows: &[u32; 17], a: &[u8], i: usize) -> u64
-    requires { (i < length a.now / 8) × (length a.now / 8 ≤ 64) × (policies_bad 8 256 a.now ≡ false) }
-    ensures { (j : ℕ) → in_set result j ≡ (ltb j (length a.now / 8) && contradict_by rows.now a.now i j) }
+fn contradict_row(rows: &[u32; 17], a: &Policies<'_>, i: usize) -> u64
+    requires { i < record_count policies a.now }
+    ensures { (j : ℕ) → in_set result j ≡ (ltb j (record_count policies a.now) && contradict_by rows.now a.now i j) }
 {
-    row(i + 1, a.len() / 8, |j| contradict_by(rows, a, i, j))
+    let end = a.count();
+    row(i + 1, end, |j| contradict_by(rows, a, i, j))
 }
 
 // Kind 2 for the policies i and j, of which i comes first.
-fn overlap_by(apart: &[u32; 16], covered: &[u8; 64], a: &[u8], i: usize, j: usize) -> bool
-    requires { (i < j) × (j < length a.now / 8) × (length a.now / 8 ≤ 64) × (policies_bad 8 16 a.now ≡ false) }
+fn overlap_by(apart: &[u32; 16], covered: &[u8; 64], a: &Policies<'_>, i: usize, j: usize) -> bool
+    requires { (i < j) × (j < record_count policies a.now) × (j < 64) }
     ensures { result ≡ overlap_by apart.now covered.now a.now i j }
 {
-    sets::in_set(apart[a[8 * i + 1] as usize], a[8 * j + 1]) && covered[i] & covered[j] != 0
+    sets::in_set(apart[a.permission(i) as usize], a.permission(j)) && covered[i] & covered[j] != 0
 }
 
-fn overlap_row(apart: &[u32; 16], covered: &[u8; 64], a: &[u8], i: usize) -> u64
-    requires { (i < length a.now / 8) × (length a.now / 8 ≤ 64) × (policies_bad 8 16 a.now ≡ false) }
-    ensures { (j : ℕ) → in_set result j ≡ (ltb j (length a.now / 8) && overlap_by apart.now covered.now a.now i j) }
+fn overlap_row(apart: &[u32; 16], covered: &[u8; 64], a: &Policies<'_>, i: usize) -> u64
+    requires { i < record_count policies a.now }
+    ensures { (j : ℕ) → in_set result j
+        ≡ (ltb j (record_count policies a.now) && overlap_by apart.now covered.now a.now i j) }
 {
-    row(i + 1, a.len() / 8, |j| overlap_by(apart, covered, a, i, j))
+    let end = a.count();
+    row(i + 1, end, |j| overlap_by(apart, covered, a, i, j))
 }
 
 // Kind 3 for user u and exclusion record e.
@@ -129,16 +131,16 @@ pub fn contradictions(base: &Base<'_>) -> Conflicts
     ensures firsts { result.firsts ≡ record_count policies (table_of base.now policies) }
     ensures rows { Contradictions base.now result.rows }
 {
-    let a = base.part(Table::Policies);
-    let names = slots::names(a);
+    let a = base.policies();
+    let names = slots::names(&a);
     let related = slots::relations(base.part(Table::Contexts), names);
-    let firsts = a.len() / 8;
+    let firsts = a.count();
     let mut found = Conflicts {
         kind: Kind::Contradiction,
         firsts,
         rows: [0; 64],
     };
-    filling::fill(&mut found.rows, firsts, |i| contradict_row(&related, a, i));
+    filling::fill(&mut found.rows, firsts, |i| contradict_row(&related, &a, i));
     found
 }
 
@@ -148,10 +150,10 @@ pub fn overlaps(base: &Base<'_>) -> Conflicts
     ensures firsts { result.firsts ≡ record_count policies (table_of base.now policies) }
     ensures rows { Overlaps base.now result.rows }
 {
-    let a = base.part(Table::Policies);
-    let covered = covers::cover_sets(base.part(Table::Hierarchy), a);
+    let a = base.policies();
+    let covered = covers::cover_sets(base.part(Table::Hierarchy), &a);
     let apart = covers::excluded_sets(base.part(Table::Exclusions));
-    let firsts = a.len() / 8;
+    let firsts = a.count();
     let mut found = Conflicts {
         kind: Kind::Overlap,
         firsts,
@@ -160,7 +162,7 @@ pub fn overlaps(base: &Base<'_>) -> Conflicts
     filling::fill(
         &mut found.rows,
         firsts,
-        |i| overlap_row(&apart, &covered, a, i),
+        |i| overlap_row(&apart, &covered, &a, i),
     );
     found
 }

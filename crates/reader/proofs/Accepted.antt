@@ -5,13 +5,13 @@ use mathlib.Core.Bool.{Bool, true, false, ◌&&◌, ◌||◌, not, cond}
 use mathlib.Core.Path.{◌≡◌, refl, ap, sym, ◌∙◌}
 use mathlib.Core.List.{List}
 use native.Mathlib.Omega.{arith}
-use native.Mathlib.Nat.{suc-ne-zero, mul-suc, mul_comm, div-mul-le_self, mul-le-mul_left, le_trans}
+use native.Mathlib.Nat.{suc-ne-zero, mul-suc, mul_comm, div-mul-le_self, mul-le-mul_left, le_trans, lt_of_lt_of_le}
 use mathlib.Core.Logic.{◌⊎◌, inl, inr, ⊎_elim}
 use borrow.Author.Tests.{ltb-true, ltb-false, eqb-true, not-false, lt-ltb}
 use lib.Dec.{ltb, eqb}
 use lib.ListN.{length}
 use Rattle.folds.proofs.Bools.{or_left, or_right, none_met, clash, met_or_not}
-use Rattle.folds.proofs.Tests.{any_at}
+use Rattle.folds.proofs.Tests.{any_at, any_each}
 use Rattle.reader.specs.Fields.{senior, junior, parameter, clause_permission, clause_length}
 use Rattle.reader.specs.Fields.{condition_attribute, condition_operator, condition_value}
 use Rattle.reader.specs.Fields.{context_number, context_length, context_parameter, context_operator, context_value}
@@ -20,9 +20,9 @@ use Rattle.reader.specs.Fields.{exclusion_kind, exclusion_first, exclusion_secon
 use Rattle.reader.specs.Codes.{parameter_ok, code_product, held_by, holds}
 use Rattle.folds.specs.Sets.{in_set}
 use Rattle.folds.proofs.Sets.{in_set_high}
-use Rattle.reader.proofs.Frame.{roles_range}
+use Rattle.reader.proofs.Frame.{roles_range, permissions_le, record_count_lem, count_limit}
 use Rattle.reader.proofs.Parameter.{roles_held}
-use Rattle.reader.specs.Tables.{width, hierarchy, users, clauses, contexts, policies, exclusions}
+use Rattle.reader.specs.Tables.{width, limit, hierarchy, users, clauses, contexts, policies, exclusions}
 use Rattle.reader.specs.Tables.{role_count, permission_count, table_of, record_count}
 use Rattle.reader.specs.Tables.{length_bad, letters_bad, trailer_bad, frame_refusal}
 use Rattle.reader.specs.Rules.{range_of, outside, hierarchy_record_bad, user_bad}
@@ -276,3 +276,25 @@ holds_set b ok u l =
           (λ k. rw k (sym (in_set_high R s r small (ltb-false _ _ k))))
           (met_or_not (ltb r R))),
     )
+
+-- a table A that passed the check passes it with more roles and permissions
+pub policies_wider : (R P S Q : ℕ) (a : List ℕ) → R ≤ S → P ≤ Q → policies_bad R P a ≡ false →
+    policies_bad S Q a ≡ false
+unfolding policies_bad policy_bad
+policies_wider R P S Q a r p fine =
+    any_each (policy_bad S Q a) (record_count policies a)
+    (λ i m. let f = policy_fine R P a i fine m in
+    rw (lt-ltb _ _ (lt_of_lt_of_le f.role r), lt-ltb _ _ (lt_of_lt_of_le f.permission p))
+    (or_right (not (ltb (policy_permission a i) P)) _
+    (or_right (not (ltb (policy_role a i) R)) _ (any_at (policy_bad R P a) _ fine i m))))
+
+module _ (b : List ℕ) (ok : refusal_of b ≡ 0) where
+  -- so that of an accepted base passes it with 8 roles and 16 permissions
+  pub policies_small : policies_bad 8 16 (table_of b policies) ≡ false
+  policies_small =
+      let f = accepted b ok in
+      policies_wider _ _ 8 16 (table_of b policies) (roles_range b f.frame).1 (permissions_le b f.frame) f.policies
+
+  -- its tables have at most their limits of records
+  pub records_le : (t : ℕ) → t < 7 → record_count t (table_of b t) ≤ limit t
+  records_le t l = let frame = (accepted b ok).frame in rw (record_count_lem b frame t l) (count_limit b frame t l)

@@ -12,12 +12,14 @@ pub mod clauses;
 pub mod codes;
 pub mod conditions;
 pub mod contexts;
+mod policies;
 mod records;
 mod refusal;
 mod tables;
 pub mod trailer;
 
 pub use base::{Base, accept};
+pub use policies::Policies;
 pub use refusal::{Refusal, Refused};
 pub use tables::Table;
 use trailer::Frame;

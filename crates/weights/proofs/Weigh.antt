@@ -1,25 +1,24 @@
 -- The weights of all roles: what the pass over A and the juniors' sets give is the paper's weight; its bounds.
 use Prim.Native.Nat.{ℕ, zero, suc, ◌+◌, ◌*◌, ◌/◌, ◌%◌, ◌<◌, ◌≤◌}
-use mathlib.Core.Bool.{Bool, true, false, not, cond}
+use mathlib.Core.Bool.{Bool, true, false, cond}
 use mathlib.Core.Path.{◌≡◌, ap, ap₂, ◌∙◌}
 use mathlib.Core.Logic.{⊎_elim, ◌↔◌}
 use mathlib.Core.List.{List}
 use native.Mathlib.Omega.{arith}
-use native.Mathlib.Nat.{lt_of_lt_of_le, lt_irrefl, not-suc-le-zero, add-zero}
+use native.Mathlib.Nat.{lt_irrefl, not-suc-le-zero, add-zero}
 use native.Mathlib.Numerals.{one-add}
-use borrow.Author.Tests.{ne_eqb, lt-ltb}
-use lib.Dec.{ltb, eqb, lit<}
-use lib.ListN.{length, get_or}
+use borrow.Author.Tests.{ne_eqb}
+use lib.Dec.{eqb}
+use lib.ListN.{get_or}
 use Rattle.folds.specs.Below.{sum_below}
 use Rattle.folds.specs.Sets.{in_set}
-use Rattle.folds.proofs.Bools.{met_or_not, or_right}
-use Rattle.folds.proofs.Tests.{any_at, any_each}
+use Rattle.folds.proofs.Bools.{met_or_not}
 use Rattle.folds.proofs.Numbers.{sum_same, sum_tail, sum_split, sum_le, sum_none, sum_one, sum_zero, sum_pick}
-use Rattle.reader.specs.Tables.{hierarchy, contexts, policies, role_count, table_count, table_of, record_count}
-use Rattle.reader.specs.Fields.{policy_role, policy_permission, policy_context}
-use Rattle.reader.specs.Rules.{policy_bad, policies_bad, refusal_of}
-use Rattle.reader.proofs.Frame.{roles_range, permissions_le, count_limit, table_length}
-use Rattle.reader.proofs.Accepted.{accepted, policy_fine}
+use Rattle.reader.specs.Tables.{hierarchy, contexts, policies, role_count, table_of, record_count}
+use Rattle.reader.specs.Fields.{policy_role, policy_context}
+use Rattle.reader.specs.Rules.{policies_bad, refusal_of}
+use Rattle.reader.proofs.Frame.{roles_range}
+use Rattle.reader.proofs.Accepted.{accepted, policy_fine, policies_small}
 use Rattle.weights.specs.declared.Context.{Context}
 use Rattle.weights.specs.declared.Fixed.{Fixed}
 use Rattle.weights.specs.Contexts.{context_holds}
@@ -35,42 +34,16 @@ pub given_le : (t : Bool) {x : ℕ} → x ≤ 5 → cond t x 0 ≤ 5
 given_le true h = h
 given_le false h = omega arith
 
--- a table A that passed the check passes it with more roles and permissions
-pub policies_wider : (R P S Q : ℕ) (a : List ℕ) → R ≤ S → P ≤ Q → policies_bad R P a ≡ false →
-    policies_bad S Q a ≡ false
-unfolding policies_bad policy_bad
-policies_wider R P S Q a r p fine =
-    any_each (policy_bad S Q a) (record_count policies a)
-    (λ i m. let f = policy_fine R P a i fine m in
-    rw (lt-ltb _ _ (lt_of_lt_of_le f.role r), lt-ltb _ _ (lt_of_lt_of_le f.permission p))
-    (or_right (not (ltb (policy_permission a i) P)) _
-    (or_right (not (ltb (policy_role a i) R)) _ (any_at (policy_bad R P a) _ fine i m))))
-
 module _ (b : List ℕ) (ok : refusal_of b ≡ 0) where
   small : role_count b ≤ 8
   small = (roles_range b (accepted b ok).frame).1
-
-  pub policies_small : policies_bad 8 16 (table_of b policies) ≡ false
-  policies_small =
-      let few = permissions_le b (accepted b ok).frame in
-      policies_wider _ _ 8 16 (table_of b policies) small few (accepted b ok).policies
-
-  -- A has at most 64 records of 8 bytes
-  pub policies_short : length (table_of b policies) ≤ 512
-  policies_short =
-      let frame = (accepted b ok).frame in
-      let few : table_count b policies ≤ 64 = count_limit b frame policies (lit< tt) in
-      omega (arith, table_length b frame policies (lit< tt))
-
-  pub policies_fine : policies_bad 8 256 (table_of b policies) ≡ false
-  policies_fine = policies_wider 8 16 8 256 (table_of b policies) (omega arith) (omega arith) policies_small
 
   -- no policy that counts weighs more than 5
   pub chosen_five : (rules : List ℕ) (in_force f : ℕ → Bool) (p r : ℕ) →
       chosen_weight rules in_force f (table_of b policies) (record_count policies (table_of b policies)) r p ≤ 5
   chosen_five rules in_force f p r =
       chosen_le rules in_force f (table_of b policies) r p 5 _
-      (λ i l. (policy_fine 8 16 (table_of b policies) i policies_small l).weight_le)
+      (λ i l. (policy_fine 8 16 (table_of b policies) i (policies_small b ok) l).weight_le)
 
   -- there is no policy of a role at R or above
   pub chosen_high : (rules : List ℕ) (in_force f : ℕ → Bool) (p r : ℕ) → role_count b ≤ r →

@@ -74,6 +74,5 @@ pub fn choose(base: &Base<'_>, s: Fixed) -> Chosen
     requires { FixedBy base.now s }
     ensures { ChosenBy (rules_of s) base.now s.at result.own result.inh }
 {
-    let a = base.part(Table::Policies);
-    policies::choose(a, s.contexts, s.rules.as_slice())
+    policies::choose(&base.policies(), s.contexts, s.rules.as_slice())
 }

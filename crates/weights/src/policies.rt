@@ -1,12 +1,12 @@
 // The policy that counts for each role and permission: one pass over A.
-ghost use Rattle.std.specs.Prelude.{◌≡◌, false, cond, ◌⊎◌, ◌+◌, ◌*◌, ◌/◌, ◌≤◌, ◌<◌, length, get_or, set};
+ghost use Rattle.std.specs.Prelude.{◌≡◌, cond, ◌⊎◌, ◌+◌, ◌*◌, ◌≤◌, ◌<◌, get_or, set};
 ghost use Rattle.reader.specs.Fields.{policy_weight};
-ghost use Rattle.reader.specs.Rules.{policies_bad};
+ghost use Rattle.reader.specs.Tables.{policies, record_count};
 ghost use Rattle.weights.specs.Setting.{in_force_by, taken_up, AreChosen};
 
 use crate::chosen::Chosen;
 use crate::sets;
-use reader::bytes;
+use reader::{Policies, bytes};
 
 // The context number holds, by the set of those that do.
 fn in_force(contexts: u32, number: u8) -> bool
@@ -34,9 +34,10 @@ struct Kept {
 
 impl Kept {
     // Takes up policy i at a place: from now on it counts there if none did, or if it goes before the one that did.
-    fn take_up(&mut self, place: usize, list: &[u8], a: &[u8], i: usize)
-        requires { (place < 128) × (i < 64) × (8 * i + 8 ≤ length a.now)
-            × ((get_or self.old.weight place 0 ≡ 0 → ⊥) → 8 * get_or self.old.policy place 0 + 8 ≤ length a.now) }
+    fn take_up(&mut self, place: usize, list: &[u8], a: &Policies<'_>, i: usize)
+        requires { (place < 128) × (i < 64) × (i < record_count policies a.now)
+            × ((get_or self.old.weight place 0 ≡ 0 → ⊥) →
+            get_or self.old.policy place 0 < record_count policies a.now) }
         ensures { (self.new.policy ≡
             cond (taken_up list.now a.now i self.old.policy self.old.weight place)
             (set self.old.policy place i) self.old.policy) ×
@@ -48,15 +49,14 @@ impl Kept {
             || resolution::goes_before(list, a, i, bytes::wide(self.policy[place]))
         {
             self.policy[place] = i as u8;
-            self.weight[place] = a[8 * i + 2];
+            self.weight[place] = a.weight(i);
         }
     }
 }
 
-// Inner: the weights of the policies that count by the rules of a list, by a table A that passed the check.
-pub fn choose(a: &[u8], contexts: u32, list: &[u8]) -> Chosen
-    requires { (policies_bad 8 16 a.now ≡ false) × (length a.now ≤ 512) }
-    ensures { AreChosen list.now contexts a.now (length a.now / 8) result.own result.inh }
+// Inner: the weights of the policies that count by the rules of a list.
+pub fn choose(a: &Policies<'_>, contexts: u32, list: &[u8]) -> Chosen
+    ensures { AreChosen list.now contexts a.now (record_count policies a.now) result.own result.inh }
 {
     let mut any = Kept {
         policy: [0; 128],
@@ -64,12 +64,11 @@ pub fn choose(a: &[u8], contexts: u32, list: &[u8]) -> Chosen
     };
     let mut one = any;
     // No fold: its closure would hand on 512 bytes a turn, and say no more than this.
-    for i in 0..a.len() / 8 {
-        let at = 8 * i;
-        if in_force(contexts, a[at + 4]) {
-            let place = place_of(a[at + 1], a[at]);
+    for i in 0..a.count() {
+        if in_force(contexts, a.context(i)) {
+            let place = place_of(a.permission(i), a.role(i));
             any.take_up(place, list, a, i);
-            if a[at + 3] == 1 {
+            if a.type_of(i) == 1 {
                 one.take_up(place, list, a, i);
             }
         }

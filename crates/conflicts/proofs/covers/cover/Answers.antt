@@ -1,5 +1,5 @@
 -- `cover` meets its contract: the policy's own role, and for type 1 that role's seniors with it.
-use Rattle.std.proofs.Common.{ℕ, ◌≡◌, List, eqb, bit_or, ◌∙◌}
+use Rattle.std.proofs.Common.{ℕ, ◌≡◌, List, eqb, bit_or, ap, ◌∙◌}
 use Prim.Native.Nat.{◌^◌}
 use mathlib.Core.Bool.{or-false}
 use borrow.Author.Tests.{ne_eqb, eq-eqb}
@@ -7,7 +7,6 @@ use Rattle.folds.specs.Sets.{in_set}
 use Rattle.folds.proofs.Bools.{eqb_sym}
 use Rattle.folds.proofs.Sets.{in_one, in_or}
 use Rattle.reader.specs.Fields.{policy_role, policy_type}
-use Rattle.reader.proofs.Accepted.{policy_fine}
 use Rattle.weights.specs.Seniority.{senior_to}
 use Rattle.conflicts.specs.Conflicts.{covers}
 use Rattle.conflicts.proofs.covers.cover.Goals as goal
@@ -25,18 +24,16 @@ module _ (h a : List ℕ) (i r : ℕ) {own : ℕ} (is : own ≡ 2 ^ policy_role 
   unfolding covers
   with_seniors seniors one e = in_or own seniors r ∙ rw (own_role, e, eq-eqb _ _ one)
 
-pub role_bit-own-requires : goal.role_bit-own-requires
-role_bit-own-requires c = (policy_fine 8 256 c.args.a.now c.args.i c.requires.1 c.requires.0).role
+pub returns-else-type_of-eq1 : goal.returns-else-type_of-eq1
+returns-else-type_of-eq1 c =
+    let own = rw c.role-role.ensures.0 at c.role_bit-own.ensures in
+    let other = rw c.type_of.ensures.0 at c.if-type_of-eq1.false in
+    λ h juniors r l. alone h c.args.a.now c.args.i r own other
 
-pub returns-else-a-i-eq1 : goal.returns-else-a-i-eq1
-returns-else-a-i-eq1 c =
-    λ h juniors r l. alone h c.args.a.now c.args.i r c.role_bit-own.ensures c.if-a-i-eq1.false
-
-pub seniors_of-requires : goal.seniors_of-requires
-seniors_of-requires c = (policy_fine 8 256 c.args.a.now c.args.i c.requires.1 c.requires.0).role
-
-pub returns-then-a-i-eq1 : goal.returns-then-a-i-eq1
-returns-then-a-i-eq1 c =
+pub returns-then-type_of-eq1 : goal.returns-then-type_of-eq1
+returns-then-type_of-eq1 c =
+    let own = rw c.role-role.ensures.0 at c.role_bit-own.ensures in
+    let one = rw c.type_of.ensures.0 at c.if-type_of-eq1.true in
     λ h juniors r l.
-    with_seniors h c.args.a.now c.args.i r c.role_bit-own.ensures c.seniors_of.result c.if-a-i-eq1.true
-    (c.seniors_of.ensures r l ∙ juniors.role r _ l)
+    with_seniors h c.args.a.now c.args.i r own c.seniors_of.result one
+    (c.seniors_of.ensures r l ∙ juniors.role r _ l ∙ ap (senior_to h r) c.role-role.ensures.0)

@@ -1,15 +1,13 @@
 -- `contradictions` meets its contract: the rows by the related slots are those of the rules.
-use Rattle.std.proofs.Common.{ℕ, ◌≡◌, ◌/◌, false, List, length, rules}
+use Rattle.std.proofs.Common.{ℕ, ◌≡◌, ◌/◌, List, length, rules}
 use lib.Dec.{lit<}
 use Rattle.folds.specs.Sets.{in_set}
 use Rattle.reader.specs.Tables.{contexts, policies, table_of}
-use Rattle.reader.specs.Rules.{policies_bad, refusal_of}
+use Rattle.reader.specs.Rules.{refusal_of}
 use Rattle.reader.proofs.Accepted.{accepted}
-use Rattle.weights.proofs.Weigh.{policies_fine}
 use Rattle.related.specs.Slots.{named, Relations}
 use Rattle.related.proofs.Relating.{whole_contexts}
 use Rattle.conflicts.specs.Rows.{contradict_by, Rows, Contradictions}
-use Rattle.conflicts.proofs.Tables.{few_policies}
 use Rattle.conflicts.proofs.Found.{contradictions_found}
 use Rattle.conflicts.proofs.rows.contradictions.Goals as goal
 
@@ -21,9 +19,6 @@ found : (b : List ℕ) {a c related rows : List ℕ} {names : ℕ} → refusal_o
 found b ok a_is c_is relations named_are are =
     contradictions_found b ok _ _ _ (rw c_is at relations) (rw a_is at named_are) (rw a_is at are)
 
-pub names-names-requires : goal.names-names-requires
-names-names-requires c = rw c.part-a.ensures.table (policies_fine _ c.part-a.ensures.accepted)
-
 pub relations-related-requires : goal.relations-related-requires
 relations-related-requires c =
     let ok = c.part.ensures.accepted in
@@ -31,16 +26,15 @@ relations-related-requires c =
 
 pub fill-requires : goal.fill-requires
 fill-requires c =
-    let a = c.part-a.ensures in
-    let few = few_policies _ a.accepted a.table in
-    let fine : policies_bad 8 256 c.part-a.result.now ≡ false = rw a.table (policies_fine _ a.accepted) in
-    (lit< tt, (few, λ i l. search rules))
+    let (is, few) = c.count-firsts.ensures.count in
+    (lit< tt, (few, λ i l. let within = rw is at l in search rules))
 
 pub invariant_of-found : goal.invariant_of-found
-invariant_of-found c = record { few = few_policies _ c.part-a.ensures.accepted c.part-a.ensures.table }
+invariant_of-found c = record { few = c.count-firsts.ensures.count.1 }
 
 pub returns-clause-rows : goal.returns-clause-rows
 returns-clause-rows c =
-    found _ c.part.ensures.accepted c.part-a.ensures.table c.part.ensures.table c.relations-related.ensures
-    c.names-names.ensures
-    (record { row = λ i j l. let row = c.fill.ensures i 0 l in search rules })
+    let a = c.policies-a.ensures in
+    let (is, few) = c.count-firsts.ensures.count in
+    found _ a.accepted a.policies c.part.ensures.table c.relations-related.ensures c.names-names.ensures
+    (record { row = λ i j l. let row = c.fill.ensures i 0 (rw is l) in search rules })

@@ -7,5 +7,6 @@ use Rattle.conflicts.proofs.rows.overlap_row.Goals as goal
 pub returns : goal.returns
 returns c =
     let a = c.args in
-    c.row.ensures (overlap_by a.apart.now a.covered.now a.a.now a.i) (λ j r k. search rules)
-    (λ j l. rw (le-ltb a.i j (omega arith)))
+    let (is, few) = c.count-end.ensures.count in
+    rw (← is)
+    (c.row.ensures (overlap_by a.apart.now a.covered.now a.a.now a.i) (λ j r k. search rules) (λ j l. rw (le-ltb a.i j (omega arith))))

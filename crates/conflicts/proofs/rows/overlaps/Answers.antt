@@ -1,14 +1,13 @@
 -- `overlaps` meets its contract: the rows by the sets worked out are those of the rules.
-use Rattle.std.proofs.Common.{ℕ, ◌≡◌, ◌/◌, false, List, length, rules}
+use Rattle.std.proofs.Common.{ℕ, ◌≡◌, ◌/◌, List, length, rules}
 use lib.Dec.{lit<}
 use Rattle.reader.specs.Tables.{hierarchy, policies, exclusions, table_of}
-use Rattle.reader.specs.Rules.{policies_bad, refusal_of}
+use Rattle.reader.specs.Rules.{refusal_of}
 use Rattle.reader.proofs.Accepted.{accepted}
 use Rattle.reader.proofs.Frame.{roles_range, permissions_le}
-use Rattle.weights.proofs.Weigh.{policies_small, policies_fine}
 use Rattle.weights.proofs.Chains.{hierarchy_wider}
 use Rattle.conflicts.specs.Rows.{Covers, Excluded, overlap_by, Rows, Overlaps}
-use Rattle.conflicts.proofs.Tables.{few_policies, exclusions_wider}
+use Rattle.conflicts.proofs.Tables.{exclusions_wider}
 use Rattle.conflicts.proofs.Found.{overlaps_found}
 use Rattle.conflicts.proofs.rows.overlaps.Goals as goal
 
@@ -22,12 +21,8 @@ found b ok a_is h_is x_is covers excluded are =
 
 pub cover_sets-covered-requires : goal.cover_sets-covered-requires
 cover_sets-covered-requires c =
-    let a = c.part-a.ensures in
-    let f = accepted _ a.accepted in (
-      rw c.part.ensures.table (hierarchy_wider _ _ (roles_range _ f.frame).1 f.hierarchy),
-      rw a.table (policies_fine _ a.accepted),
-      few_policies _ a.accepted a.table,
-    )
+    let f = accepted _ c.part.ensures.accepted in
+    rw c.part.ensures.table (hierarchy_wider _ _ (roles_range _ f.frame).1 f.hierarchy)
 
 pub excluded_sets-apart-requires : goal.excluded_sets-apart-requires
 excluded_sets-apart-requires c =
@@ -37,15 +32,15 @@ excluded_sets-apart-requires c =
 
 pub fill-requires : goal.fill-requires
 fill-requires c =
-    let a = c.part-a.ensures in
-    let few = few_policies _ a.accepted a.table in
-    let fine : policies_bad 8 16 c.part-a.result.now ≡ false = rw a.table (policies_small _ a.accepted) in
-    (lit< tt, (few, λ i l. search rules))
+    let (is, few) = c.count-firsts.ensures.count in
+    (lit< tt, (few, λ i l. let within = rw is at l in search rules))
 
 pub invariant_of-found : goal.invariant_of-found
-invariant_of-found c = record { few = few_policies _ c.part-a.ensures.accepted c.part-a.ensures.table }
+invariant_of-found c = record { few = c.count-firsts.ensures.count.1 }
 
 pub returns-clause-rows : goal.returns-clause-rows
 returns-clause-rows c =
-    found _ c.part.ensures.accepted c.part-a.ensures.table c.part.ensures.table c.part-2.ensures.table
-    c.cover_sets-covered.ensures c.excluded_sets-apart.ensures (record { row = λ i j l. let row = c.fill.ensures i 0 l in search rules })
+    let a = c.policies-a.ensures in
+    let (is, few) = c.count-firsts.ensures.count in
+    found _ a.accepted a.policies c.part.ensures.table c.part-2.ensures.table c.cover_sets-covered.ensures
+    c.excluded_sets-apart.ensures (record { row = λ i j l. let row = c.fill.ensures i 0 (rw is l) in search rules })

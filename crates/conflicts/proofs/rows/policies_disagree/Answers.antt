@@ -3,14 +3,14 @@ use Rattle.std.proofs.Common.{rules, tests}
 use Rattle.conflicts.specs.Conflicts.{disagree}
 use Rattle.conflicts.proofs.rows.policies_disagree.Goals as goal
 
-pub returns-then-a-p-3 : goal.returns-then-a-p-3
+pub returns-then-weight : goal.returns-then-weight
 unfolding disagree
-returns-then-a-p-3 c = search (rules, tests)
+returns-then-weight c = search (rules, tests)
 
-pub returns-else-a-p-3 : goal.returns-else-a-p-3
+pub returns-else-weight : goal.returns-else-weight
 unfolding disagree
-returns-else-a-p-3 c = search (rules, tests)
+returns-else-weight c = search (rules, tests)
 
-pub returns-else-a-p-2 : goal.returns-else-a-p-2
+pub returns-else-permission : goal.returns-else-permission
 unfolding disagree
-returns-else-a-p-2 c = search (rules, tests)
+returns-else-permission c = search (rules, tests)

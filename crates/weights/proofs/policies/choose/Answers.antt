@@ -1,9 +1,10 @@
 -- A turn is argued of plain values.
 use borrow.Author.Tests.{eq-eqb, ne_eqb}
-use Rattle.std.proofs.Common.{◌≡◌, ℕ, ◌+◌, ◌*◌, ◌<◌, ◌≤◌, ◌/◌, Bool, true, false, cond, List, length, get_or, set}
-use Rattle.std.proofs.Common.{refl, sym, ◌∙◌, arith}
+use Rattle.std.proofs.Common.{◌≡◌, ℕ, ◌+◌, ◌*◌, ◌<◌, ◌≤◌, Bool, true, false, cond, List, get_or, set}
+use Rattle.std.proofs.Common.{refl, sym, ap, ◌∙◌, arith, lt_trans}
 use Rattle.reader.specs.Fields.{policy_role, policy_permission, policy_weight, policy_type, policy_context}
 use Rattle.reader.specs.Rules.{policies_bad}
+use Rattle.reader.specs.Tables.{policies, record_count}
 use Rattle.reader.proofs.Accepted.{PolicyFine, policy_fine}
 use Rattle.weights.specs.Weights.{any_type, type_one}
 use Rattle.weights.specs.Setting.{in_force_by, taken_up, AreChosen}
@@ -11,7 +12,7 @@ use Rattle.weights.proofs.Choice.{vacant, off_context, off_type}
 use Rattle.weights.proofs.Resolving.{Keeps, keeps_none, keeps_same, keeps_more, keeps_placed, kept_below}
 use Rattle.weights.proofs.Weigh.{light_chosen}
 use Rattle.weights.proofs.policies.choose.Goals as goal
-use Rattle.weights.proofs.policies.choose.Goals.{then-in_force+then-a-at-eq1, then-in_force+else-a-at-eq1}
+use Rattle.weights.proofs.policies.choose.Goals.{then-in_force+then-type_of-eq1, then-in_force+else-type_of-eq1}
 use Rattle.weights.proofs.policies.choose.Goals.{else-in_force}
 
 -- what is kept of the first i policies, of any type and of type 1
@@ -21,7 +22,7 @@ record Turn (rules : List ℕ) (s : ℕ) (a own_kept inh_kept own inh : List ℕ
 
 -- one turn, of plain values
 module _ {rules : List ℕ} {s : ℕ} {a own_kept inh_kept own inh : List ℕ} {i : ℕ}
-    (turn : Turn rules s a own_kept inh_kept own inh i) (ok : policies_bad 8 16 a ≡ false) (l : i < length a / 8) where
+    (turn : Turn rules s a own_kept inh_kept own inh i) (ok : policies_bad 8 16 a ≡ false) (l : i < record_count policies a) where
   heavy : (j : ℕ) → j < i → 1 ≤ policy_weight a j
   heavy j m = (policy_fine 8 16 a j ok (omega arith)).weight_pos
 
@@ -66,14 +67,10 @@ module _ {rules : List ℕ} {s : ℕ} {a own_kept inh_kept own inh : List ℕ} {
     }
 
 -- a policy kept at the place k is in the table
-module _ {rules : List ℕ} {in_force f : ℕ → Bool} {a kept weights : List ℕ} {i k : ℕ}
-    (keeps : Keeps rules in_force f a i kept weights) (ok : policies_bad 8 16 a ≡ false)
-    (l : i < length a / 8) (at_k : k ≡ 8 * policy_permission a i + policy_role a i) where
-  there : (get_or weights k 0 ≡ 0 → ⊥) → 8 * get_or kept k 0 + 8 ≤ length a
-  there some =
-      let fine = policy_fine 8 16 a i ok l in
-      let m = kept_below _ _ f _ keeps _ _ fine.role fine.permission at_k some in
-      omega arith
+there : {rules : List ℕ} {in_force f : ℕ → Bool} {a kept weights : List ℕ} {i n r p k : ℕ} →
+    Keeps rules in_force f a i kept weights → r < 8 → p < 16 → k ≡ 8 * p + r → i < n →
+    (get_or weights k 0 ≡ 0 → ⊥) → get_or kept k 0 < n
+there keeps role permission at_k l some = lt_trans (kept_below _ _ _ _ keeps _ _ role permission at_k some) l
 
 -- what is kept at the end
 counted : {rules : List ℕ} {s : ℕ} {a own_kept inh_kept own inh : List ℕ} {i : ℕ} →
@@ -84,47 +81,48 @@ pub loop-i-init : goal.loop-i-init
 loop-i-init c =
     record { any = keeps_none _ _ _ _ refl refl vacant.zero; one = keeps_none _ _ _ _ refl refl vacant.zero }
 
-pub in_force-requires : goal.in_force-requires
-in_force-requires c = (policy_fine 8 16 c.args.a.now c.loop-i.i c.requires.0 c.loop-i-test.true).context
-
-pub place_of-place-requires : goal.place_of-place-requires
-place_of-place-requires c =
-    let fine = policy_fine 8 16 c.args.a.now c.loop-i.i c.requires.0 c.loop-i-test.true in
-    (fine.permission, fine.role)
-
 pub take_up-requires : goal.take_up-requires
 take_up-requires c =
-    let (is, small) = c.place_of-place.ensures in
-    (small, omega arith, omega arith, there c.loop-i.invariant.any c.requires.0 c.loop-i-test.true is)
+    let (at_place, small) = c.place_of-place.ensures in
+    let (count_is, few) = c.count-i-end.ensures.count in
+    let l = rw count_is at c.loop-i-test.true in
+    let kept = there c.loop-i.invariant.any c.role.ensures.1 c.permission.ensures.1 at_place l in
+    (small, omega arith, l, kept)
 
-pub take_up-requires-then-a-at-eq1 : goal.take_up-requires-then-a-at-eq1
-take_up-requires-then-a-at-eq1 c =
-    let (is, small) = c.place_of-place.ensures in
-    (small, omega arith, omega arith, there c.loop-i.invariant.one c.requires.0 c.loop-i-test.true is)
+pub take_up-requires-then-type_of-eq1 : goal.take_up-requires-then-type_of-eq1
+take_up-requires-then-type_of-eq1 c =
+    let (at_place, small) = c.place_of-place.ensures in
+    let (count_is, few) = c.count-i-end.ensures.count in
+    let l = rw count_is at c.loop-i-test.true in
+    let kept = there c.loop-i.invariant.one c.role.ensures.1 c.permission.ensures.1 at_place l in
+    (small, omega arith, l, kept)
 
 pub loop-i-preserved : goal.loop-i-preserved
 loop-i-preserved c =
     let h = c.loop-i.invariant in
-    let ok = c.requires.0 in
-    let l = c.loop-i-test.true in
-    let test = sym c.in_force.ensures in
+    let ok = c.count-i-end.ensures.passed in
+    let l = rw c.count-i-end.ensures.count.0 at c.loop-i-test.true in
+    let test = ap (in_force_by c.args.contexts) (sym c.context.ensures.0) ∙ sym c.in_force.ensures in
     let any = c.loop-i.any in
     let one = c.loop-i.one in
     let turn :
     Turn c.args.list.now c.args.contexts c.args.a.now any.policy one.policy any.weight one.weight c.loop-i.i =
     record { any = h.any; one = h.one } in
     elim c.if-in_force.branch [
-      | then-in_force+then-a-at-eq1 w ↦
-          let (is, small) = w.place_of-place.ensures in
+      | then-in_force+then-type_of-eq1 w ↦
+          let small = w.place_of-place.ensures.1 in
+          let is = rw (w.permission.ensures.0, w.role.ensures.0) at w.place_of-place.ensures.0 in
+          let one = rw w.type_of.ensures.0 at w.if-type_of-eq1.true in
           let own = w.take_up.ensures in
-          let inh = w.take_up-then-a-at-eq1.ensures in
-          let next = taken_both turn ok l (test ∙ w.if-in_force.true) is small own.0 own.1 w.if-a-at-eq1.true inh.0
-          inh.1 in
+          let inh = w.take_up-then-type_of-eq1.ensures in
+          let next = taken_both turn ok l (test ∙ w.if-in_force.true) is small own.0 own.1 one inh.0 inh.1 in
           rw (w.any-is, w.one-is) (record { any = next.any; one = next.one })
-      | then-in_force+else-a-at-eq1 w ↦
-          let (is, small) = w.place_of-place.ensures in
+      | then-in_force+else-type_of-eq1 w ↦
+          let small = w.place_of-place.ensures.1 in
+          let is = rw (w.permission.ensures.0, w.role.ensures.0) at w.place_of-place.ensures.0 in
+          let other = rw w.type_of.ensures.0 at w.if-type_of-eq1.false in
           let own = w.take_up.ensures in
-          let next = taken turn ok l (test ∙ w.if-in_force.true) is small own.0 own.1 w.if-a-at-eq1.false in
+          let next = taken turn ok l (test ∙ w.if-in_force.true) is small own.0 own.1 other in
           rw (w.any-is, w.one-is) (record { any = next.any; one = next.one })
       | else-in_force w ↦
           let next = skipped turn ok l (test ∙ w.if-in_force.false) in
@@ -133,12 +131,14 @@ loop-i-preserved c =
 
 pub invariant_of-result : goal.invariant_of-result
 invariant_of-result c =
-    let end : c.loop-i.i ≡ length c.args.a.now / 8 = omega arith in
+    let (count_is, few) = c.count-i-end.ensures.count in
+    let end : c.loop-i.i ≡ record_count policies c.args.a.now = omega arith in
     let h = c.loop-i.invariant in
-    record { light = light_chosen c.requires.0 (rw end at (counted (record { any = h.any; one = h.one }))) }
+    record { light = light_chosen c.count-i-end.ensures.passed (rw end at (counted (record { any = h.any; one = h.one }))) }
 
 pub returns : goal.returns
 returns c =
-    let end : c.loop-i.i ≡ length c.args.a.now / 8 = omega arith in
+    let (count_is, few) = c.count-i-end.ensures.count in
+    let end : c.loop-i.i ≡ record_count policies c.args.a.now = omega arith in
     let h = c.loop-i.invariant in
     rw end at (counted (record { any = h.any; one = h.one }))

@@ -1,0 +1,108 @@
+// The policies of an accepted base, by number.
+ghost use Rattle.std.specs.Prelude.{◌≡◌, false, ◌⊎◌, ◌≤◌, ◌<◌, List, ℕ};
+ghost use Rattle.reader.specs.Tables.{policies, table_of, record_count};
+ghost use Rattle.reader.specs.Fields.{policy_role, policy_permission, policy_weight, policy_type, policy_context};
+ghost use Rattle.reader.specs.Fields.{policy_rank, policy_issue_day};
+ghost use Rattle.reader.specs.Rules.{policies_bad, refusal_of};
+
+use crate::{Base, Table, bytes};
+use std::marker::Model;
+
+// A table A that passed the check, seen as its bytes.
+#[derive(Drop)]
+pub struct Policies<'a> {
+    table: &'a [u8],
+}
+
+impl<'a> Model for Policies<'a> {
+    ghost Value = { List ℕ };
+
+    ghost view = { λ a. a.table.now };
+
+    ghost invariant = { λ a. (policies_bad 8 16 a.table.now ≡ false) × (record_count policies a.table.now ≤ 64) };
+}
+
+impl<'a> Base<'a> {
+    // Inner: the policies.
+    pub fn policies(&self) -> Policies<'a>
+        ensures policies { result ≡ table_of self.now policies }
+        ensures accepted { refusal_of self.now ≡ 0 }
+    {
+        Policies {
+            table: self.part(Table::Policies),
+        }
+    }
+}
+
+impl<'a> Policies<'a> {
+    // Inner: how many there are; they passed the check.
+    pub fn count(&self) -> usize
+        ensures count { (result ≡ record_count policies self.now) × (result ≤ 64) }
+        ensures passed { policies_bad 8 16 self.now ≡ false }
+    {
+        self.table.len() / 8
+    }
+
+    // Inner: the role of policy i.
+    pub fn role(&self, i: usize) -> u8
+        requires { i < record_count policies self.now }
+        ensures { (result ≡ policy_role self.now i) × (result < 8) }
+    {
+        let a = self.table;
+        a[8 * i]
+    }
+
+    // Inner: its permission.
+    pub fn permission(&self, i: usize) -> u8
+        requires { i < record_count policies self.now }
+        ensures { (result ≡ policy_permission self.now i) × (result < 16) }
+    {
+        let a = self.table;
+        a[8 * i + 1]
+    }
+
+    // Inner: its weight.
+    pub fn weight(&self, i: usize) -> u8
+        requires { i < record_count policies self.now }
+        ensures { (result ≡ policy_weight self.now i) × (result ≤ 5) }
+    {
+        let a = self.table;
+        a[8 * i + 2]
+    }
+
+    // Inner: its type.
+    pub fn type_of(&self, i: usize) -> u8
+        requires { i < record_count policies self.now }
+        ensures { (result ≡ policy_type self.now i) × (result ≤ 1) }
+    {
+        let a = self.table;
+        a[8 * i + 3]
+    }
+
+    // Inner: its context number.
+    pub fn context(&self, i: usize) -> u8
+        requires { i < record_count policies self.now }
+        ensures { (result ≡ policy_context self.now i) × ((result ≤ 15) ⊎ (result ≡ 255)) }
+    {
+        let a = self.table;
+        a[8 * i + 4]
+    }
+
+    // Inner: its granter's rank.
+    pub fn rank(&self, i: usize) -> u8
+        requires { i < record_count policies self.now }
+        ensures { result ≡ policy_rank self.now i }
+    {
+        let a = self.table;
+        a[8 * i + 5]
+    }
+
+    // Inner: its issue day.
+    pub fn issue_day(&self, i: usize) -> u16
+        requires { i < record_count policies self.now }
+        ensures { result ≡ policy_issue_day self.now i }
+    {
+        let a = self.table;
+        bytes::get16(a, 8 * i + 6)
+    }
+}
