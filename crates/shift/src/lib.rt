@@ -10,7 +10,7 @@ ghost use Rattle.shift.specs.Counting.{at_or_above, entries_at_or_above};
 
 use decision::groups::Entry;
 use decision::members::Members;
-use reader::{Refusal, Refused, Table};
+use reader::{Policies, Refusal, Refused};
 use weights::acting::Acting;
 
 // Entry point: by how much, at most, the group's sum of weights shifts where the policy gets this weight; refusals 1 to
@@ -21,11 +21,17 @@ pub fn bound(base: &[u8], policy: u32, weight: u32, group: &[u8]) -> Result<u32,
     let base = reader::accept(base)?;
     let acting = Acting::of(&base);
     let members = Members::of(&acting, group)?;
-    let a = base.part(Table::Policies);
-    if change_refused(a.len() / 8, policy, weight) {
+    let a = base.policies();
+    if change_refused(a.count(), policy, weight) {
         return Err(Refusal::Change.into());
     }
-    Ok(bound_of(a, acting.juniors(), policy as usize, weight as u8, &members))
+    Ok(bound_of(
+        &a,
+        acting.juniors(),
+        policy as usize,
+        weight as u8,
+        &members,
+    ))
 }
 
 // Refusal 21, with so many policies.
@@ -35,15 +41,20 @@ fn change_refused(count: usize, policy: u32, weight: u32) -> bool
     count <= policy as usize || !(1..=5).contains(&weight)
 }
 
-// The bound, by the table A, the juniors of each role and who stands in the group.
-fn bound_of(a: &[u8], juniors: [u8; 8], policy: usize, weight: u8, members: &Members<'_>) -> u32
-    requires { (policy < record_count policies a.now) × (policy_role a.now policy < 8) }
+// The bound, by the policies, the juniors of each role and who stands in the group.
+fn bound_of(
+    a: &Policies<'_>,
+    juniors: [u8; 8],
+    policy: usize,
+    weight: u8,
+    members: &Members<'_>,
+) -> u32
+    requires { policy < record_count policies a.now }
     ensures { result ≡ distance (policy_weight a.now policy) weight
         * entries_at_or_above juniors (policy_role a.now policy) members.now }
 {
-    let at = 8 * policy;
-    let difference = a[at + 2].abs_diff(weight) as u32;
-    difference * entries_at_or_above(juniors, a[at], members)
+    let difference = a.weight(policy).abs_diff(weight) as u32;
+    difference * entries_at_or_above(juniors, a.role(policy), members)
 }
 
 // How many entries act in this role or in a senior of it.

@@ -3,7 +3,7 @@ use Rattle.std.proofs.Common.{ℕ, Bool, true, false, List, length, ◌≡◌, �
 use mathlib.Core.Bool.{cond}
 use Rattle.std.specs.Prelude.{Err}
 use mathlib.Core.Path.{ap, sym, ◌∙◌}
-use native.Mathlib.Nat.{lt_of_lt_of_le, suc-ne-zero}
+use native.Mathlib.Nat.{suc-ne-zero}
 use borrow.Author.Tests.{ltb-false}
 use lib.Dec.{ltb}
 use Rattle.folds.proofs.Bools.{refused, unrefused, or_right}
@@ -11,7 +11,7 @@ use Rattle.reader.specs.Tables.{hierarchy, policies, role_count, user_count, tab
 use Rattle.reader.specs.Fields.{policy_role, policy_weight}
 use Rattle.reader.specs.Rules.{refusal_of}
 use Rattle.reader.proofs.Frame.{roles_range}
-use Rattle.reader.proofs.Accepted.{accepted, accepted_frame, policy_fine}
+use Rattle.reader.proofs.Accepted.{accepted_frame}
 use Rattle.reader.specs.declared.refusal.Refusal.TheVariants.{Change}
 use Rattle.reader.proofs.Results.{refusal_pos, carried_on}
 use Rattle.reader.proofs.Answered.{answered_refused, answered_done_lem}
@@ -65,22 +65,14 @@ module _ (b : List ℕ) (i w : ℕ) (g : List ℕ) where
     by_none : change_refused (policy_count b) i w ≡ false → bound_refusal b i w g ≡ 0
     by_none e = rest ∙ rw e
 
--- 21 by the bytes of the table
-by_table : {a d : List ℕ} {t : Bool} (i w : ℕ) → a ≡ d → t ≡ change_refused (record_count policies a) i w →
+-- 21 by the number of policies
+by_count : (d : List ℕ) {n : ℕ} {t : Bool} (i w : ℕ) → n ≡ record_count policies d → t ≡ change_refused n i w →
     change_refused (record_count policies d) i w ≡ t
-by_table i w e h = rw (← e) (sym h)
+by_count d i w e h = rw (← e) (sym h)
 
 -- a weight that 21 doesn't refuse is a byte
 small : (n i w : ℕ) → change_refused n i w ≡ false → w ≤ 5
 small n i w e = ltb-false _ _ (or_right (ltb w 1) _ (change_allowed n i w e).1)
-
--- the policy is in the table that the call is lent, and its role is below 8
-in_table : (b a : List ℕ) (i : ℕ) → refusal_of b ≡ 0 → a ≡ table_of b policies → i < policy_count b →
-    (i < record_count policies a) × (policy_role a i < 8)
-in_table b a i ok e there =
-    let fine = policy_fine _ _ (table_of b policies) i (accepted b ok).policies there in
-    let small = (roles_range b (accepted_frame b ok)).1 in
-    (rw e there, rw e (lt_of_lt_of_le fine.role small))
 
 bound_by : (b juniors a : List ℕ) (i w : ℕ) (g : List ℕ) {k : ℕ} → a ≡ table_of b policies →
     Juniors (table_of b hierarchy) juniors → ((n : ℕ) → n < entry_count g → entry_role g n < 8) →
@@ -104,8 +96,9 @@ pub returns-then-change_refused : goal.returns-then-change_refused
 returns-then-change_refused c =
     let e = c.in_ok-base.ensures in
     let k = known e.number (c.of-acting.ensures ∙ e.same) c.in_ok-members.ensures.number in
-    let table = c.part-a.ensures.table ∙ ap (λ b. table_of b policies) e.same in
-    let bad = by_table c.args.policy c.args.weight table c.if-change_refused.ensures in
+    let table = c.policies-a.ensures.policies ∙ ap (λ b. table_of b policies) e.same in
+    let count = c.count.ensures.count.0 ∙ ap (record_count policies) table in
+    let bad = by_count (table_of c.args.base.now policies) c.args.policy c.args.weight count c.if-change_refused.ensures in
     carried_on Change (Err _) c.into.ensures ∙ answered_refused _ _ (by_21 _ _ _ _ k bad) (suc-ne-zero 20)
 
 pub overflow_cast-weight : goal.overflow_cast-weight
@@ -113,20 +106,17 @@ overflow_cast-weight c = let most = small _ c.args.policy c.args.weight (sym c.i
 
 pub bound_of-requires : goal.bound_of-requires
 bound_of-requires c =
-    let e = c.in_ok-base.ensures in
-    let k = known e.number (c.of-acting.ensures ∙ e.same) c.in_ok-members.ensures.number in
-    let table = c.part-a.ensures.table ∙ ap (λ b. table_of b policies) e.same in
-    let good = by_table c.args.policy c.args.weight table c.if-change_refused.ensures in
-    let (there, low) = in_table _ _ _ k.ok table (change_allowed _ _ c.args.weight good).0 in
-    (there, low)
+    let allowed = change_allowed _ c.args.policy c.args.weight (sym c.if-change_refused.ensures) in
+    rw c.count.ensures.count.0 at allowed.0
 
 pub returns : goal.returns
 returns c =
     let e = c.in_ok-base.ensures in
     let same = c.of-acting.ensures ∙ e.same in
     let k = known e.number same c.in_ok-members.ensures.number in
-    let table = c.part-a.ensures.table ∙ ap (λ b. table_of b policies) e.same in
-    let good = by_table c.args.policy c.args.weight table c.if-change_refused.ensures in
+    let table = c.policies-a.ensures.policies ∙ ap (λ b. table_of b policies) e.same in
+    let count = c.count.ensures.count.0 ∙ ap (record_count policies) table in
+    let good = by_count (table_of c.args.base.now policies) c.args.policy c.args.weight count c.if-change_refused.ensures in
     answered_done_lem _ _ (by_none _ _ _ _ k good)
     (bound_by _ _ _ c.args.policy c.args.weight c.args.group.now table (rw same at c.juniors.ensures)
     k.low (rw c.in_ok-members.ensures.same at c.bound_of.ensures))

@@ -26,6 +26,7 @@ returns c =
     (YieldsList-from_filter _ (counts c.args.juniors c.args.role g)
     (YieldsList-from_range 0 (length g / 2) (length g / 2) (cc) (omega arith))
     c.filter.ensures.closure (λ x r q k. search (rules, tests)))
-    ∙ count_chain (counts c.args.juniors c.args.role g) (length g / 2) in
-    (is ∙ ap (entries_at_or_above c.args.juniors c.args.role) same,
-    at_most (counts c.args.juniors c.args.role g) (length g / 2) is (rw same (omega arith)))
+    ∙ count_chain (counts c.args.juniors c.args.role g) (length g / 2) in (
+      is ∙ ap (entries_at_or_above c.args.juniors c.args.role) same,
+      at_most (counts c.args.juniors c.args.role g) (length g / 2) is (rw same (omega arith)),
+    )
