@@ -1,6 +1,6 @@
 // A permission's clauses, struck out of the masks of what their conditions aren't met by. Bit i is for clause i.
-// `Checked k` stands in four clauses here and in `asked`. A type for K was tried: with the fact as a ghost field fifteen
-// places would say `k.now.table.now`; as a model every function that reads K would prove its bounds by the view.
+// `Checked k` stands in four clauses here and in `asked`. A type for K was tried: with the fact as a ghost field
+// fifteen places would say `k.now.table.now`; as a model the tactics no longer find the bounds of what is read of K.
 ghost use Rattle.std.specs.Prelude.{◌≡◌, true, ◌^◌, ◌≤◌, ◌<◌, length, map};
 ghost use Rattle.std.specs.Int.Bits.{bit_and};
 ghost use Rattle.folds.specs.Sets.{in_set};
