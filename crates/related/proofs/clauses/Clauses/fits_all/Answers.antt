@@ -1,9 +1,8 @@
 -- `fits_all` meets its contract: a clause behind the table has no conditions, one in it at most 3 by the rules.
-use Rattle.std.proofs.Common.{rules, tests, arith, ◌||◌, not, eqb}
+use Rattle.std.proofs.Common.{rules, tests, arith}
 use Rattle.folds.specs.Below.{all_below}
 use Rattle.reader.proofs.Accepted.{context_fine}
-use Rattle.weights.specs.Operators.{meets}
-use Rattle.related.specs.Related.{fits}
+use Rattle.related.specs.Related.{fits_at, fits}
 use Rattle.related.proofs.Relating.{no_conditions}
 use Rattle.related.proofs.clauses.Clauses.fits_all.Goals as goal
 
@@ -23,4 +22,4 @@ pub returns-else-self-i : goal.returns-else-self-i
 unfolding fits
 returns-else-self-i c =
     let a = c.args in
-    c.all_pass.ensures (λ x. not (eqb x.parameter a.p) || meets x.operator a.v x.value) (λ x r k. search (rules, tests))
+    c.all_pass.ensures (fits_at a.self.now.table.now a.i a.p a.v) (λ k r q. search (rules, tests))
