@@ -22,7 +22,8 @@ record Turn (rules : List ℕ) (s : ℕ) (a own_kept inh_kept own inh : List ℕ
 
 -- one turn, of plain values
 module _ {rules : List ℕ} {s : ℕ} {a own_kept inh_kept own inh : List ℕ} {i : ℕ}
-    (turn : Turn rules s a own_kept inh_kept own inh i) (ok : policies_bad 8 16 a ≡ false) (l : i < record_count policies a) where
+    (turn : Turn rules s a own_kept inh_kept own inh i) (ok : policies_bad 8 16 a ≡ false)
+    (l : i < record_count policies a) where
   heavy : (j : ℕ) → j < i → 1 ≤ policy_weight a j
   heavy j m = (policy_fine 8 16 a j ok (omega arith)).weight_pos
 
@@ -134,7 +135,8 @@ invariant_of-result c =
     let (count_is, few) = c.count-i-end.ensures.count in
     let end : c.loop-i.i ≡ record_count policies c.args.a.now = omega arith in
     let h = c.loop-i.invariant in
-    record { light = light_chosen c.count-i-end.ensures.passed (rw end at (counted (record { any = h.any; one = h.one }))) }
+    let are = rw end at (counted (record { any = h.any; one = h.one })) in
+    record { light = light_chosen c.count-i-end.ensures.passed are }
 
 pub returns : goal.returns
 returns c =
