@@ -56,27 +56,6 @@ fn room_of(t: usize) -> Room
     ROOMS[t]
 }
 
-fn table_offset(base: &[u8], t: usize) -> usize
-    requires { (36 ≤ length base.now) × (t < 7) }
-    ensures { (result ≡ table_offset base.now t) × (result < 65536) }
-{
-    bytes::get16(base, base.len() - 36 + 4 * t) as usize
-}
-
-fn table_count(base: &[u8], t: usize) -> usize
-    requires { (36 ≤ length base.now) × (t < 7) }
-    ensures { (result ≡ table_count base.now t) × (result < 65536) }
-{
-    bytes::get16(base, base.len() - 36 + 4 * t + 2) as usize
-}
-
-fn role_count(base: &[u8]) -> u8
-    requires { 36 ≤ length base.now }
-    ensures { result ≡ role_count base.now }
-{
-    base[base.len() - 36 + 28]
-}
-
 // Refusal 1.
 fn length_bad(base: &[u8]) -> bool
     ensures { result ≡ length_bad base.now }
@@ -84,87 +63,107 @@ fn length_bad(base: &[u8]) -> bool
     base.len() < 36 || 2364 < base.len()
 }
 
-// Refusal 2.
-fn letters_bad(base: &[u8]) -> bool
-    requires { 36 ≤ length base.now }
-    ensures { result ≡ letters_bad base.now }
-{
-    !base.ends_with(b"LCAP")
+// A lent base that is long enough for a trailer, seen as its bytes.
+#[derive(Drop)]
+struct Trailer<'a> {
+    base: &'a [u8],
 }
 
-// The three zero bytes after R: with R as the lowest byte, the number in the four is below 256.
-fn reserved_bad(base: &[u8]) -> bool
-    requires { 36 ≤ length base.now }
-    ensures { result ≡ reserved_bad base.now }
-{
-    255 < bytes::get32(base, base.len() - 8)
+impl<'a> Model for Trailer<'a> {
+    ghost Value = { List ℕ };
+
+    ghost view = { λ trailer. trailer.base.now };
+
+    ghost invariant = { λ trailer. 36 ≤ length trailer.base.now };
 }
 
-fn tables_bad(base: &[u8]) -> bool
-    requires { 36 ≤ length base.now }
-    ensures { result ≡ tables_bad base.now }
-{
-    let mut at: usize = 0;
-    // Each table's end is where the next has to start.
-    for (t, room) in ROOMS.iter().enumerate() {
-        let n = table_count(base, t);
-        if room.limit < n {
+impl<'a> Trailer<'a> {
+    fn table_offset(&self, t: usize) -> usize
+        requires { t < 7 }
+        ensures { (result ≡ table_offset self.now t) × (result < 65536) }
+    {
+        let base = self.base;
+        bytes::get16(base, base.len() - 36 + 4 * t) as usize
+    }
+
+    fn table_count(&self, t: usize) -> usize
+        requires { t < 7 }
+        ensures { (result ≡ table_count self.now t) × (result < 65536) }
+    {
+        let base = self.base;
+        bytes::get16(base, base.len() - 36 + 4 * t + 2) as usize
+    }
+
+    fn role_count(&self) -> u8
+        ensures { result ≡ role_count self.now }
+    {
+        let base = self.base;
+        base[base.len() - 36 + 28]
+    }
+
+    // Refusal 2.
+    fn letters_bad(&self) -> bool
+        ensures { result ≡ letters_bad self.now }
+    {
+        !self.base.ends_with(b"LCAP")
+    }
+
+    // The three zero bytes after R: with R as the lowest byte, the number in the four is R.
+    fn reserved_bad(&self) -> bool
+        ensures { result ≡ reserved_bad self.now }
+    {
+        let base = self.base;
+        bytes::get32(base, base.len() - 8) != u32::from(self.role_count())
+    }
+
+    fn tables_bad(&self) -> bool
+        ensures { result ≡ tables_bad self.now }
+    {
+        let mut at: usize = 0;
+        // Each table's end is where the next has to start.
+        for (t, room) in ROOMS.iter().enumerate() {
+            let n = self.table_count(t);
+            if room.limit < n {
+                return true;
+            }
+            if self.table_offset(t) != at {
+                return true;
+            }
+            at = at + n * room.width;
+        }
+        at != self.base.len() - 36
+    }
+
+    // Refusal 3.
+    fn is_bad(&self) -> bool
+        ensures { result ≡ trailer_bad self.now }
+    {
+        let roles = self.role_count();
+        if roles < 1 {
             return true;
         }
-        if table_offset(base, t) != at {
+        if 8 < roles {
             return true;
         }
-        at = at + n * room.width;
+        if self.reserved_bad() {
+            return true;
+        }
+        self.tables_bad()
     }
-    at != base.len() - 36
-}
-
-// Refusal 3.
-fn trailer_bad(base: &[u8]) -> bool
-    requires { 36 ≤ length base.now }
-    ensures { result ≡ trailer_bad base.now }
-{
-    let roles = role_count(base);
-    if roles < 1 {
-        return true;
-    }
-    if 8 < roles {
-        return true;
-    }
-    if reserved_bad(base) {
-        return true;
-    }
-    tables_bad(base)
-}
-
-// Refusals 1 to 3.
-fn frame_refusal(base: &[u8]) -> Result<(), Refusal>
-    ensures { number_of result ≡ frame_refusal base.now }
-{
-    if length_bad(base) {
-        return Err(Refusal::BaseLength);
-    }
-    if letters_bad(base) {
-        return Err(Refusal::Letters);
-    }
-    if trailer_bad(base) {
-        return Err(Refusal::Trailer);
-    }
-    Ok(())
 }
 
 // A lent base that passed 1 to 3, so that its tables can be read; seen as its bytes.
 #[derive(Drop)]
 pub struct Frame<'a> {
-    bytes: &'a [u8],
+    trailer: Trailer<'a>,
 }
 
 impl<'a> Model for Frame<'a> {
     ghost Value = { List ℕ };
 
-    ghost view = { λ frame. frame.bytes.now };
+    ghost view = { λ frame. frame.trailer };
 
-    ghost invariant = { λ frame. frame_refusal frame.bytes.now ≡ 0 };
+    ghost invariant = { λ frame. frame_refusal frame.trailer ≡ 0 };
 }
 
 impl<'a> Frame<'a> {
@@ -173,8 +172,17 @@ impl<'a> Frame<'a> {
         ensures number { number_of result ≡ frame_refusal base.now }
         ensures same { IfOk result (λ frame. frame ≡ base.now) }
     {
-        frame_refusal(base)?;
-        Ok(Frame { bytes: base })
+        if length_bad(base) {
+            return Err(Refusal::BaseLength);
+        }
+        let trailer = Trailer { base };
+        if trailer.letters_bad() {
+            return Err(Refusal::Letters);
+        }
+        if trailer.is_bad() {
+            return Err(Refusal::Trailer);
+        }
+        Ok(Frame { trailer })
     }
 
     // Inner: table t.
@@ -183,9 +191,10 @@ impl<'a> Frame<'a> {
         ensures table { result.now ≡ table_of self.now t }
         ensures framed { frame_refusal self.now ≡ 0 }
     {
-        let base = self.bytes;
-        let a = table_offset(base, t);
-        let e = a + table_count(base, t) * room_of(t).width;
+        let trailer = &self.trailer;
+        let a = trailer.table_offset(t);
+        let e = a + trailer.table_count(t) * room_of(t).width;
+        let base = trailer.base;
         &base[a..e]
     }
 
@@ -201,7 +210,7 @@ impl<'a> Frame<'a> {
     pub fn role_count(&self) -> u8
         ensures { (result ≡ role_count self.now) × (result ≤ 8) }
     {
-        role_count(self.bytes)
+        self.trailer.role_count()
     }
 
     // Inner: the number of users.

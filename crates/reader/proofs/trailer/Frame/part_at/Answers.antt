@@ -31,17 +31,20 @@ table_count-requires c = let f = framed _ c.self.invariant in search rules
 
 pub slice_bounds-result-end : goal.slice_bounds-result-end
 slice_bounds-result-end c =
-    inside (record {
+    rw c.trailer.view_is (inside (record {
       ok = c.self.invariant;
       there = c.requires;
       a_is = c.table_offset-a.ensures.0;
       n_is = c.table_count.ensures.0;
       w_is = c.room_of.ensures.0;
-    })
+    }))
 
 pub returns-clause-table : goal.returns-clause-table
 returns-clause-table c =
-    is_table (record {
+    let a = c.table_offset-a.result in
+    let n = c.table_count.result * c.room_of.result.width in
+    ap (λ (b : List ℕ). part_of b a (a + n - a)) c.trailer.view_is
+    ∙ is_table (record {
       ok = c.self.invariant;
       there = c.requires;
       a_is = c.table_offset-a.ensures.0;

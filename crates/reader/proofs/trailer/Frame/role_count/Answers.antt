@@ -1,11 +1,8 @@
--- A base that passed 1 to 3 has a trailer, and its R is at most 8.
+-- The R of a base that passed 1 to 3 is at most 8.
 use Rattle.std.proofs.Common.{ap, ◌∙◌}
 use Rattle.reader.specs.Tables.{role_count}
-use Rattle.reader.proofs.Frame.{framed, roles_range}
+use Rattle.reader.proofs.Frame.{roles_range}
 use Rattle.reader.proofs.trailer.Frame.role_count.Goals as goal
-
-pub role_count-requires : goal.role_count-requires
-role_count-requires c = (framed _ c.self.invariant).long
 
 pub returns : goal.returns
 returns c =

@@ -9,7 +9,7 @@ use Rattle.std.proofs.lemmas.Slice.Eq.{text_from_reads}
 use Rattle.folds.specs.Below.{any_below}
 use Rattle.folds.proofs.Bools.{eqb_sym}
 use Rattle.reader.specs.Tables.{trailer, letters, letters_bad}
-use Rattle.reader.proofs.trailer.letters_bad.Goals as goal
+use Rattle.reader.proofs.trailer.Trailer.letters_bad.Goals as goal
 
 not_each : (p q r s : Bool) → not (p && (q && (r && (s && true)))) ≡ (((not p || not q) || not r) || not s)
 not_each false q r s = refl
@@ -37,4 +37,4 @@ module _ (b : List ℕ) (long : 36 ≤ length b) where
   same = rw (last, not_each, eqb_sym 76, eqb_sym 67, eqb_sym 65, eqb_sym 80)
 
 pub returns : goal.returns
-returns c = ap not c.ends_with.ensures.value ∙ same _ c.requires
+returns c = ap not c.ends_with.ensures.value ∙ same _ c.self.invariant ∙ ap letters_bad c.self.view_is

@@ -2,7 +2,7 @@
 use Rattle.std.proofs.Common.{ℕ, ◌<◌, ◌≤◌, true, false, List, ◌≡◌, sym, ◌∙◌}
 use borrow.Author.Tests.{lt-ltb, le-ltb}
 use Rattle.reader.specs.Tables.{role_count, roles_bad, reserved_bad, tables_bad, trailer_bad}
-use Rattle.reader.proofs.trailer.trailer_bad.Goals as goal
+use Rattle.reader.proofs.trailer.Trailer.is_bad.Goals as goal
 
 module _ (b : List ℕ) {roles : ℕ} (are : roles ≡ role_count b) where
   no_role : roles < 1 → true ≡ trailer_bad b

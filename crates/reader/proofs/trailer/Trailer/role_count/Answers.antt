@@ -1,8 +1,8 @@
 -- The byte read is the one that `role_count` names.
-use Rattle.std.proofs.Common.{refl}
+use Rattle.std.proofs.Common.{ap}
 use Rattle.reader.specs.Tables.{role_count}
-use Rattle.reader.proofs.trailer.role_count.Goals as goal
+use Rattle.reader.proofs.trailer.Trailer.role_count.Goals as goal
 
 pub returns : goal.returns
 unfolding role_count
-returns c = refl
+returns c = ap role_count c.self.view_is

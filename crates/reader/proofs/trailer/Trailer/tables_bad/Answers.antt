@@ -9,8 +9,8 @@ use Rattle.reader.specs.Tables.{width, limit, trailer, table_offset, table_count
 use Rattle.reader.specs.Tables.{table_bad, tables_bad}
 use Rattle.reader.specs.declared.trailer.TheConstants.{ROOMS}
 use Rattle.reader.proofs.Frame.{records_size}
-use Rattle.reader.proofs.trailer.tables_bad.Invariants.{Turn}
-use Rattle.reader.proofs.trailer.tables_bad.Goals as goal
+use Rattle.reader.proofs.trailer.Trailer.tables_bad.Invariants.{Turn}
+use Rattle.reader.proofs.trailer.Trailer.tables_bad.Goals as goal
 
 -- a room of the table of rooms
 width_is : (t : ℕ) → t < 7 → (slice_index_or ROOMS t (record { width = 0; limit = 0 })).width ≡ width t
@@ -91,4 +91,4 @@ loop-t-preserved c =
     (size there few most_is w_is) n_is w_is
 
 pub returns : goal.returns
-returns c = last c.loop-t.invariant c.loop-t-test.false
+returns c = rw c.self.view_is (last c.loop-t.invariant c.loop-t-test.false)
