@@ -98,7 +98,8 @@ returns-then-change_refused c =
     let k = known e.number (c.of-acting.ensures ∙ e.same) c.in_ok-members.ensures.number in
     let table = c.policies-a.ensures.policies ∙ ap (λ b. table_of b policies) e.same in
     let count = c.count.ensures.count.0 ∙ ap (record_count policies) table in
-    let bad = by_count (table_of c.args.base.now policies) c.args.policy c.args.weight count c.if-change_refused.ensures in
+    let table_a = table_of c.args.base.now policies in
+    let bad = by_count table_a c.args.policy c.args.weight count c.if-change_refused.ensures in
     carried_on Change (Err _) c.into.ensures ∙ answered_refused _ _ (by_21 _ _ _ _ k bad) (suc-ne-zero 20)
 
 pub overflow_cast-weight : goal.overflow_cast-weight
@@ -116,7 +117,8 @@ returns c =
     let k = known e.number same c.in_ok-members.ensures.number in
     let table = c.policies-a.ensures.policies ∙ ap (λ b. table_of b policies) e.same in
     let count = c.count.ensures.count.0 ∙ ap (record_count policies) table in
-    let good = by_count (table_of c.args.base.now policies) c.args.policy c.args.weight count c.if-change_refused.ensures in
+    let table_a = table_of c.args.base.now policies in
+    let good = by_count table_a c.args.policy c.args.weight count c.if-change_refused.ensures in
     answered_done_lem _ _ (by_none _ _ _ _ k good)
     (bound_by _ _ _ c.args.policy c.args.weight c.args.group.now table (rw same at c.juniors.ensures)
     k.low (rw c.in_ok-members.ensures.same at c.bound_of.ensures))
