@@ -81,6 +81,7 @@ impl Level<'_> {
         ensures { FoundAt (meets self.now) from end result }
     {
         let eights = (end - from) / 8;
+        // No `find_map`: of the rest, called by `or_else` behind it, a proof knows nothing.
         for i in 0..eights {
             if let Some(found) = self.meeting_in_eight(from + 8 * i) {
                 return Some(found);
