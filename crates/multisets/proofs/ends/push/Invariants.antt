@@ -6,8 +6,8 @@ use Rattle.multisets.proofs.ends.push.Given as goal
 abbrev pub row : ℕ → List ℕ → ℕ → List ℕ
 row d nexts end = take (8 * end + d - 8 * end) (drop (8 * end) nexts)
 
--- the entries of place i for the roles below q are done, and its end, which is one, stays; of its row and of the numbers
--- what is left begins with role q
+-- the entries of place i for the roles below q are done, and its end, which is one, stays; what is left of its row and
+-- of the numbers begins with role q
 pub record Turn (d : ℕ) (nexts up : List ℕ) (i end q : ℕ) (rest rest_up ends from : List ℕ) : Type 0 where
   pub within : q ≤ d
   pub filled : Filled d nexts (8 * i + q) ends from
