@@ -22,7 +22,7 @@ pub fn next_ends(sets: &[u8; 24], users: usize) -> [u8; 200]
     ensures { NextEnds sets.now result × NextTable result }
 {
     let mut ends = [255u8; 200];
-    // Each end may be the one eight places on, which is written before it.
+    // Each end may be the one eight places on, written before it: a `zip` can't read the array that it writes.
     for at in (0..8 * users).rev() {
         ends[at] = end_from(sets, ends[at + 8], at / 8, (at % 8) as u8);
     }
@@ -58,13 +58,12 @@ pub fn push(
         return;
     }
     let at = 8 * (end as usize);
-    // The role's number counts both lists and goes into the entry.
-    for q in 0..d {
+    for (q, (later, ahead)) in nexts[at..at + d].iter().zip(up).enumerate() {
         relax(
             ends,
             from,
-            next + (up[q] as usize),
-            nexts[at + q],
+            next + (*ahead as usize),
+            *later,
             (8 * i + q) as u16,
         );
     }

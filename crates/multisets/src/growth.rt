@@ -69,7 +69,7 @@ fn grow_block(
     let next = first_in(d, n + 2) + start_in(n + 1, r);
     let fixed = fixed_steps(n, r);
     let kept = kept_steps(r);
-    // Each multiset's row goes into the tables that the next ones read.
+    // A multiset is a number here, and its row goes into the tables that the next ones read.
     for j in 0..start_in(n, r + 1) {
         let up = ups_of(t, 8 * (less + j), &fixed, &kept);
         keep_row(t, n + 1, 8 * (here + j), &up);
@@ -83,7 +83,7 @@ fn grow_level(d: usize, nexts: &[u8], n: usize, t: &mut [u16], ends: &mut [u8], 
         × Grown d nexts.now (first d (suc n)) t.old ends.old from.old }
     ensures { Grown d nexts.now (first d (suc (suc n))) t.new ends.new from.new }
 {
-    // Each block changes the tables.
+    // A role is a number here, and each block changes the tables.
     for r in 0..d {
         grow_block(d, nexts, n, r, t, ends, from);
     }
