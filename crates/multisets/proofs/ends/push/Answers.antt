@@ -2,7 +2,7 @@
 use Rattle.std.proofs.Common.{ℕ, suc, ◌+◌, ◌*◌, ◌≤◌, ◌<◌, List, ◌≡◌, ◌∙◌, length, get_or, arith}
 use native.Mathlib.Nat.{zero-add}
 use Rattle.multisets.specs.Ranks.{first, more}
-use Rattle.multisets.specs.Ends.{Grows, Relaxed}
+use Rattle.multisets.specs.Ends.{NextTable, Grows, Relaxed}
 use Rattle.multisets.specs.Levels.{Pushing}
 use Rattle.multisets.proofs.Places.{first_five, first_all, place_lt, first_le}
 use Rattle.multisets.proofs.Filling.{filled_more, end_stays, at_within}
@@ -32,7 +32,7 @@ module _ {d : ℕ} {nexts up : List ℕ} {i next : ℕ} {ends from : List ℕ} (
 
 -- one turn, of plain values
 module _ {d : ℕ} {nexts up : List ℕ} {i next : ℕ} {ends₀ from₀ : List ℕ} (p : Pushing d nexts up i next ends₀ from₀)
-    {end q : ℕ} {ends from : List ℕ} (turn : Turn d nexts i end q ends from) (role : q < d) where
+    (table : NextTable nexts) {end q : ℕ} {ends from : List ℕ} (turn : Turn d nexts i end q ends from) (role : q < d) where
   grows : Grows d p.n p.m q (8 * i + q)
   grows = record { few = p.few; some = p.some; role = role; is = rw p.place }
 
@@ -54,16 +54,16 @@ module _ {d : ℕ} {nexts up : List ℕ} {i next : ℕ} {ends₀ from₀ : List 
   is_next = rw is_end
 
   target_lt : next + get_or up q 0 < first d 7
-  target_lt = at_within p.most turn.filled p.table grows small there is_next
+  target_lt = at_within p.most turn.filled table grows small there is_next
 
   turn_more : {ends' from' : List ℕ} →
       Relaxed ends from (next + get_or up q 0) (get_or nexts (8 * end + q) 0) (8 * i + q) ends' from' →
       Turn d nexts i end (q + 1) ends' from'
   turn_more {ends'} {from'} r =
       let past : 8 * i + (q + 1) ≡ 8 * i + q + 1 = omega arith in
-      let same = end_stays p.most turn.filled p.table grows small there is_next r in
+      let same = end_stays p.most turn.filled table grows small there is_next r in
       record {
-        filled = rw past (filled_more p.most turn.filled p.table grows small there is_next r);
+        filled = rw past (filled_more p.most turn.filled table grows small there is_next r);
         stays = rw p.place (same ∙ is_end);
         reached = turn.reached;
       }
@@ -73,12 +73,13 @@ bounds-ends-i c = place_there c.requires
 
 pub overflow_add-next : goal.overflow_add-next
 overflow_add-next c =
-    omega (arith, target_lt c.requires c.loop-q.invariant c.loop-q-test.true, first_all _ c.requires.most)
+    let table = rw c.nexts.view_is at c.nexts.invariant in
+    omega (arith, target_lt c.requires table c.loop-q.invariant c.loop-q-test.true, first_all _ c.requires.most)
 
-pub bounds-nexts-at : goal.bounds-nexts-at
-bounds-nexts-at c =
+pub bounds-nexts-inside-at : goal.bounds-nexts-inside-at
+bounds-nexts-inside-at c =
     let p = c.requires in
-    omega (arith, c.loop-q-test.true, p.most, first_end p c.loop-q.invariant.reached, p.table.size)
+    omega (arith, c.loop-q-test.true, p.most, first_end p c.loop-q.invariant.reached)
 
 pub overflow_mul-i : goal.overflow_mul-i
 overflow_mul-i c = omega (arith, place_few c.requires)
@@ -91,9 +92,12 @@ overflow_cast-i c = omega (arith, c.requires.most, place_few c.requires)
 
 pub relax-requires : goal.relax-requires
 relax-requires c =
+    let table = rw c.nexts.view_is at c.nexts.invariant in
     let f = c.loop-q.invariant.filled in
-    let l = target_lt c.requires c.loop-q.invariant c.loop-q-test.true in
+    let l = target_lt c.requires table c.loop-q.invariant c.loop-q-test.true in
     (omega (arith, l, f.room), omega (arith, l, f.places))
 
 pub loop-q-preserved : goal.loop-q-preserved
-loop-q-preserved c = turn_more c.requires c.loop-q.invariant c.loop-q-test.true c.relax.ensures
+loop-q-preserved c =
+    let table = rw c.nexts.view_is at c.nexts.invariant in
+    turn_more c.requires table c.loop-q.invariant c.loop-q-test.true (rw c.nexts.view_is at c.relax.ensures)
