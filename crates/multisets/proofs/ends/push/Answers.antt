@@ -32,7 +32,8 @@ module _ {d : ℕ} {nexts up : List ℕ} {i next : ℕ} {ends from : List ℕ} (
 
 -- one turn, of plain values
 module _ {d : ℕ} {nexts up : List ℕ} {i next : ℕ} {ends₀ from₀ : List ℕ} (p : Pushing d nexts up i next ends₀ from₀)
-    (table : NextTable nexts) {end q : ℕ} {ends from : List ℕ} (turn : Turn d nexts i end q ends from) (role : q < d) where
+    (table : NextTable nexts) {end q : ℕ} {ends from : List ℕ} (turn : Turn d nexts i end q ends from)
+    (role : q < d) where
   grows : Grows d p.n p.m q (8 * i + q)
   grows = record { few = p.few; some = p.some; role = role; is = rw p.place }
 
