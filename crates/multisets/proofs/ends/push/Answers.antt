@@ -7,7 +7,7 @@ use lib.ListN.{length-drop}
 use lib.Seq.{drop-drop, get_or-drop}
 use Rattle.std.proofs.lemmas.List.{get_or-take, length-take}
 use Rattle.multisets.specs.Ranks.{first, more}
-use Rattle.multisets.specs.Ends.{Grows, Relaxed}
+use Rattle.multisets.specs.Ends.{NextTable, Grows, Relaxed}
 use Rattle.multisets.specs.Levels.{Pushing}
 use Rattle.multisets.proofs.Places.{first_five, first_all, place_lt, first_le}
 use Rattle.multisets.proofs.Filling.{filled_more, end_stays, at_within}
@@ -36,14 +36,14 @@ module _ {d : ℕ} {nexts up : List ℕ} {i next : ℕ} {ends from : List ℕ} (
       p.filled.within i (omega (arith, place_lt d p.n p.m p.some, first_le d (suc p.n) 7 (omega arith))) h
 
   -- so there is a whole row of next ends
-  row_length : get_or ends i 0 < 255 → length (row d nexts (get_or ends i 0)) ≡ d
-  row_length h =
+  row_length : NextTable nexts → get_or ends i 0 < 255 → length (row d nexts (get_or ends i 0)) ≡ d
+  row_length table h =
       let end = get_or ends i 0 in
       omega (
         arith,
         length-take (8 * end + d - 8 * end) (drop (8 * end) nexts),
         length-drop (8 * end) nexts,
-        p.table.size,
+        table.size,
         p.most,
         first_end h,
       )
@@ -67,8 +67,8 @@ module _ (xs : List ℕ) (q : ℕ) {rest : List ℕ} (left : rest ≡ drop q xs)
 
 -- one turn, of plain values
 module _ {d : ℕ} {nexts up : List ℕ} {i next : ℕ} {ends₀ from₀ : List ℕ} (p : Pushing d nexts up i next ends₀ from₀)
-    {end q : ℕ} {rest rest_up ends from : List ℕ} (turn : Turn d nexts up i end q rest rest_up ends from)
-    {x ahead : ℕ} {after after_up : List ℕ} (cut : (rest ≡ x ∷ after) × (rest_up ≡ ahead ∷ after_up)) where
+    (table : NextTable nexts) {end q : ℕ} {rest rest_up ends from : List ℕ}
+    (turn : Turn d nexts up i end q rest rest_up ends from) {x ahead : ℕ} {after after_up : List ℕ} (cut : (rest ≡ x ∷ after) × (rest_up ≡ ahead ∷ after_up)) where
   role : q < d
   role =
       let l = some_left (row d nexts end) q turn.left cut.0 in
@@ -100,17 +100,17 @@ module _ {d : ℕ} {nexts up : List ℕ} {i next : ℕ} {ends₀ from₀ : List 
       ∙ get_or-drop (8 * end) nexts q 0 ∙ rw is_end
 
   target_lt : next + ahead < first d 7
-  target_lt = at_within p.most turn.filled p.table grows small there is_next
+  target_lt = at_within p.most turn.filled table grows small there is_next
 
   turn_more : {k l : ℕ} → k ≡ q → l ≡ q + 1 → {ends' from' : List ℕ} →
       Relaxed ends from (next + ahead) x (8 * i + k) ends' from' → Turn d nexts up i end l after after_up ends' from'
   turn_more {l = l} is one read =
       let r = rw is at read in
       let past : 8 * i + l ≡ 8 * i + q + 1 = omega arith in
-      let same = end_stays p.most turn.filled p.table grows small there is_next r in
+      let same = end_stays p.most turn.filled table grows small there is_next r in
       record {
         within = omega (arith, role);
-        filled = rw past (filled_more p.most turn.filled p.table grows small there is_next r);
+        filled = rw past (filled_more p.most turn.filled table grows small there is_next r);
         stays = rw p.place (same ∙ is_end);
         reached = turn.reached;
         left = next_left (row d nexts end) q turn.left cut.0 one;
@@ -119,12 +119,12 @@ module _ {d : ℕ} {nexts up : List ℕ} {i next : ℕ} {ends₀ from₀ : List 
 
 -- where nothing is left of the row or of the numbers, every role had its turn
 module _ {d : ℕ} {nexts up : List ℕ} {i next : ℕ} {ends₀ from₀ : List ℕ} (p : Pushing d nexts up i next ends₀ from₀)
-    {q : ℕ} {rest rest_up ends from : List ℕ}
+    (table : NextTable nexts) {q : ℕ} {rest rest_up ends from : List ℕ}
     (turn : Turn d nexts up i (get_or ends₀ i 0) q rest rest_up ends from) where
   row_done : length rest ≡ 0 → d ≤ q
   row_done none =
       let l = none_left (row d nexts (get_or ends₀ i 0)) q turn.left none in
-      omega (arith, l, row_length p turn.reached)
+      omega (arith, l, row_length p table turn.reached)
 
   ups_done : length rest_up ≡ 0 → d ≤ q
   ups_done none = omega (arith, none_left up q turn.left_up none, p.size, p.most)
@@ -132,10 +132,8 @@ module _ {d : ℕ} {nexts up : List ℕ} {i next : ℕ} {ends₀ from₀ : List 
 pub bounds-ends-i : goal.bounds-ends-i
 bounds-ends-i c = place_there c.requires
 
-pub slice_bounds-iter-end : goal.slice_bounds-iter-end
-slice_bounds-iter-end c =
-    let p = c.requires in
-    omega (arith, p.most, first_end p (omega arith), p.table.size)
+pub behind-row-requires : goal.behind-row-requires
+behind-row-requires c = (first_end c.requires (omega arith), c.requires.most)
 
 pub loop-q-init : goal.loop-q-init
 loop-q-init c =
@@ -155,7 +153,7 @@ loop-q-init c =
 
 pub overflow_add-next : goal.overflow_add-next
 overflow_add-next c =
-    let l = target_lt c.requires c.loop-q.invariant c.in-Some.ensures.steps.0 in
+    let l = target_lt c.requires c.behind-row.ensures.table c.loop-q.invariant c.in-Some.ensures.steps.0 in
     omega (arith, l, first_all _ c.requires.most)
 
 pub overflow_mul-i : goal.overflow_mul-i
@@ -164,27 +162,28 @@ overflow_mul-i c = omega (arith, place_few c.requires)
 pub overflow_add-i : goal.overflow_add-i
 overflow_add-i c =
     let (cut, is, next, fits) = c.in-Some.ensures.steps in
-    omega (arith, role c.requires c.loop-q.invariant cut, c.requires.most, place_few c.requires)
+    omega (arith, role c.requires c.behind-row.ensures.table c.loop-q.invariant cut, c.requires.most, place_few c.requires)
 
 pub overflow_cast-i : goal.overflow_cast-i
 overflow_cast-i c =
     let (cut, is, next, fits) = c.in-Some.ensures.steps in
-    omega (arith, role c.requires c.loop-q.invariant cut, c.requires.most, place_few c.requires)
+    omega (arith, role c.requires c.behind-row.ensures.table c.loop-q.invariant cut, c.requires.most, place_few c.requires)
 
 pub relax-requires : goal.relax-requires
 relax-requires c =
     let f = c.loop-q.invariant.filled in
-    let l = target_lt c.requires c.loop-q.invariant c.in-Some.ensures.steps.0 in
+    let l = target_lt c.requires c.behind-row.ensures.table c.loop-q.invariant c.in-Some.ensures.steps.0 in
     (omega (arith, l, f.room), omega (arith, l, f.places))
 
 pub loop-q-preserved : goal.loop-q-preserved
 loop-q-preserved c =
     let (cut, is, next, fits) = c.in-Some.ensures.steps in
-    turn_more c.requires c.loop-q.invariant cut is next c.relax.ensures
+    turn_more c.requires c.behind-row.ensures.table c.loop-q.invariant cut is next c.relax.ensures
 
 pub returns : goal.returns
 returns c =
     let p = c.requires in
+    let table = c.behind-row.ensures.table in
     let turn = c.loop-q.invariant in
-    let done = ⊎_elim (λ r. row_done p turn r.1.0) (λ r. ups_done p turn r.1.0) c.in-None.ensures.steps.0 in
+    let done = ⊎_elim (λ r. row_done p table turn r.1.0) (λ r. ups_done p table turn r.1.0) c.in-None.ensures.steps.0 in
     search rules
