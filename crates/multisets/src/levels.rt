@@ -30,7 +30,6 @@ impl<const ROWS: usize, const PLACES: usize> LevelTables<ROWS, PLACES> {
         ensures { (result.d ≡ d) × (result.nexts ≡ nexts) }
     {
         // Read for what is known of them.
-        // Opened, the table is one as its type says.
         let _ = &nexts.ends;
         let mut ends = [255u8; PLACES];
         ends[0] = 0;

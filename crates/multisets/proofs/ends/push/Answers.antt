@@ -68,7 +68,8 @@ module _ (xs : List ℕ) (q : ℕ) {rest : List ℕ} (left : rest ≡ drop q xs)
 -- one turn, of plain values
 module _ {d : ℕ} {nexts up : List ℕ} {i next : ℕ} {ends₀ from₀ : List ℕ} (p : Pushing d nexts up i next ends₀ from₀)
     (table : NextTable nexts) {end q : ℕ} {rest rest_up ends from : List ℕ}
-    (turn : Turn d nexts up i end q rest rest_up ends from) {x ahead : ℕ} {after after_up : List ℕ} (cut : (rest ≡ x ∷ after) × (rest_up ≡ ahead ∷ after_up)) where
+    (turn : Turn d nexts up i end q rest rest_up ends from) {x ahead : ℕ} {after after_up : List ℕ}
+    (cut : (rest ≡ x ∷ after) × (rest_up ≡ ahead ∷ after_up)) where
   role : q < d
   role =
       let l = some_left (row d nexts end) q turn.left cut.0 in
@@ -162,12 +163,14 @@ overflow_mul-i c = omega (arith, place_few c.requires)
 pub overflow_add-i : goal.overflow_add-i
 overflow_add-i c =
     let (cut, is, next, fits) = c.in-Some.ensures.steps in
-    omega (arith, role c.requires c.behind-row.ensures.table c.loop-q.invariant cut, c.requires.most, place_few c.requires)
+    let table = c.behind-row.ensures.table in
+    omega (arith, role c.requires table c.loop-q.invariant cut, c.requires.most, place_few c.requires)
 
 pub overflow_cast-i : goal.overflow_cast-i
 overflow_cast-i c =
     let (cut, is, next, fits) = c.in-Some.ensures.steps in
-    omega (arith, role c.requires c.behind-row.ensures.table c.loop-q.invariant cut, c.requires.most, place_few c.requires)
+    let table = c.behind-row.ensures.table in
+    omega (arith, role c.requires table c.loop-q.invariant cut, c.requires.most, place_few c.requires)
 
 pub relax-requires : goal.relax-requires
 relax-requires c =
