@@ -132,7 +132,7 @@ pub fn contradictions(base: &Base<'_>) -> Conflicts
     ensures rows { Contradictions base.now result.rows }
 {
     let a = base.policies();
-    let names = slots::names(&a);
+    let names = slots::names(a.bytes());
     let related = slots::relations(base.part(Table::Contexts), names);
     let firsts = a.count();
     let mut found = Conflicts {

@@ -14,7 +14,7 @@ use Rattle.folds.specs.Sets.{in_set}
 use Rattle.folds.proofs.Bools.{met_or_not, clash, and_left, and_both}
 use Rattle.folds.proofs.Folds.{fold_steps}
 use Rattle.folds.proofs.Lists.{zero_at}
-use Rattle.folds.proofs.Parts.{before_end, from_end, length_end}
+use Rattle.folds.proofs.Parts.{before_end, from_end}
 use Rattle.folds.proofs.Sets.{in_and, in_or, in_none}
 use Rattle.std.specs.List.{fold}
 use Rattle.std.proofs.lemmas.List.{length-take, get_or-take, get_or-drop}

@@ -16,10 +16,9 @@ use lib.Pow.{pow_mono}
 use Rattle.folds.specs.Below.{all_below}
 use Rattle.folds.specs.Sets.{in_set}
 use Rattle.folds.proofs.Bools.{met_or_not, same_test, and_left, and_right, and_both}
-use Rattle.folds.proofs.Changing.{Changed}
 use Rattle.folds.proofs.Folds.{fold_steps}
 use Rattle.folds.proofs.Numbers.{count_le}
-use Rattle.folds.proofs.Parts.{before_end, length_end}
+use Rattle.folds.proofs.Parts.{before_end}
 use Rattle.folds.proofs.Tests.{all_each, all_at, all_same}
 use Rattle.folds.proofs.Sets.{in_and, in_none, in_added, in_set_high}
 use Rattle.decision.specs.Conditions.{role_num}

@@ -2,6 +2,8 @@
 ghost use Rattle.masks.specs.Asked.{Room};
 
 use crate::clauses::{all_but, some_clause, strike_roles, strike_unmet};
+use crate::table::GroupClauses;
+use reader::clauses::GroupCondition;
 
 // Inner: for each number of entries and each number of roles the clauses that it meets, and for each role those that
 // don't ask for it.
@@ -17,20 +19,27 @@ impl Asked {
     ghost use Rattle.std.specs.Prelude.{◌≡◌, ◌^◌, ◌≤◌, ◌<◌, length};
     ghost use Rattle.reader.specs.Tables.{clauses, record_count};
     ghost use Rattle.reader.specs.Fields.{clause_length};
-    ghost use Rattle.masks.specs.Clauses.{Checked, met_at, met, StruckAll, NarrowedAll};
+    ghost use Rattle.masks.specs.Clauses.{met_at, met, StruckAll, NarrowedAll};
 
     // Leaves only `others` in the masks of what condition j of clause i is on, where it isn't met.
-    fn strike_condition(&mut self, sums: &mut [u64], k: &[u8], i: usize, j: usize, others: u64)
-        requires { Checked k.now × (i < record_count clauses k.now) × (j < clause_length k.now i)
-            × (length sums.old ≤ 256) }
+    fn strike_condition(
+        &mut self,
+        sums: &mut [u64],
+        k: &GroupClauses<'_>,
+        i: usize,
+        j: usize,
+        others: u64,
+    )
+        requires { (i < record_count clauses k.now) × (j < clause_length k.now i) × (length sums.old ≤ 256) }
         ensures { StruckAll (length sums.old) (met_at k.now i j) others self.old sums.old self.new sums.new }
     {
-        // Read byte by byte: of a `GroupCondition` each of the four ways would state the same three equations again.
-        let at = 16 * i + 3 * j;
-        let operator = k[at + 3];
-        let value = k[at + 4];
+        let GroupCondition {
+            attribute,
+            operator,
+            value,
+        } = k.condition(i, j);
         // by the attribute's byte, of which the check has made sure
-        match k[at + 2] {
+        match attribute {
             0 => strike_unmet(&mut self.entries, operator, value, others),
             1 => strike_unmet(sums, operator, value, others),
             2 => strike_unmet(&mut self.numbers, operator, value, others),
@@ -39,19 +48,19 @@ impl Asked {
     }
 
     // The same for all conditions of clause i.
-    fn strike_clause(&mut self, sums: &mut [u64], k: &[u8], i: usize, others: u64)
-        requires { Checked k.now × (i < record_count clauses k.now) × (length sums.old ≤ 256) }
+    fn strike_clause(&mut self, sums: &mut [u64], k: &GroupClauses<'_>, i: usize, others: u64)
+        requires { (i < record_count clauses k.now) × (length sums.old ≤ 256) }
         ensures { StruckAll (length sums.old) (met k.now i) others self.old sums.old self.new sums.new }
     {
         // by number: the conditions stand in the record, not in a slice of their own
-        for j in 0..k[16 * i + 1] as usize {
+        for j in 0..k.length(i) {
             self.strike_condition(sums, k, i, j, others);
         }
     }
 
     // Strikes each clause of the set out of the masks of what it isn't met by.
-    pub(crate) fn strike_clauses(&mut self, sums: &mut [u64], k: &[u8], own: u64)
-        requires { Checked k.now × (own < 2 ^ record_count clauses k.now) × (length sums.old ≤ 256)
+    pub(crate) fn strike_clauses(&mut self, sums: &mut [u64], k: &GroupClauses<'_>, own: u64)
+        requires { (own < 2 ^ record_count clauses k.now) × (length sums.old ≤ 256)
             × NarrowedAll k.now own own (length sums.old) self.old sums.old }
         ensures { (length sums.new ≡ length sums.old)
             × NarrowedAll k.now own 0 (length sums.old) self.new sums.new }

@@ -1,13 +1,12 @@
 // A permission's clauses, struck out of the masks of what their conditions aren't met by. Bit i is for clause i.
-// `Checked k` stands in four clauses here and in `asked`. A type for K was tried: with the fact as a ghost field
-// fifteen places would say `k.now.table.now`; as a model the tactics no longer find the bounds of what is read of K.
 ghost use Rattle.std.specs.Prelude.{◌≡◌, true, ◌^◌, ◌≤◌, ◌<◌, length, map};
 ghost use Rattle.std.specs.Int.Bits.{bit_and};
 ghost use Rattle.folds.specs.Sets.{in_set};
 ghost use Rattle.reader.specs.Tables.{clauses, record_count};
-ghost use Rattle.masks.specs.Clauses.{clauses_of, Checked, stands_to, lacks, Struck, AllBut, NarrowedAll};
+ghost use Rattle.masks.specs.Clauses.{clauses_of, stands_to, lacks, Struck, AllBut, NarrowedAll};
 
 use crate::asked::Asked;
+use crate::table::GroupClauses;
 use weights::{operators, sets};
 
 // Inner: the permission's clauses.
@@ -79,8 +78,8 @@ pub(crate) fn all_but(own: u64, i: usize) -> u64
 }
 
 // Inner: these of the clauses `own`; for each sum those that it meets are written.
-pub fn clauses_met(k: &[u8], own: u64, sums: &mut [u64]) -> Asked
-    requires { Checked k.now × (own < 2 ^ record_count clauses k.now) × (length sums.old ≤ 256) }
+pub fn clauses_met(k: &GroupClauses<'_>, own: u64, sums: &mut [u64]) -> Asked
+    requires { (own < 2 ^ record_count clauses k.now) × (length sums.old ≤ 256) }
     ensures { (length sums.new ≡ length sums.old)
         × NarrowedAll k.now own 0 (length sums.old) result sums.new }
 {

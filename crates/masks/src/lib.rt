@@ -8,6 +8,9 @@ pub mod asked;
 pub mod clauses;
 mod rows;
 pub mod sets;
+pub mod table;
+
+use table::GroupClauses;
 
 // The entries placed already: how many, the sum of their weights and the set of their roles.
 #[derive(Clone, Copy)]
@@ -41,7 +44,7 @@ pub fn masks_for(
     ensures { Masks k.now own w weighed placed masks.new.sums masks.new.sets result }
 {
     let top = placed.sum + (6 - placed.count) * weighed.heavy;
-    let asked = clauses::clauses_met(k, own, &mut masks.sums[..top + 1]);
+    let asked = clauses::clauses_met(&GroupClauses::of(k), own, &mut masks.sums[..top + 1]);
     sets::sets_for(
         own,
         &asked,

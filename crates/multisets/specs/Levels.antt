@@ -3,7 +3,7 @@ use Rattle.std.specs.Prelude.{ℕ, suc, ◌+◌, ◌*◌, ◌<◌, ◌≤◌, �
 use Rattle.multisets.specs.Ranks.{starts, first, more}
 use Rattle.multisets.specs.declared.Weighing.{Weighing}
 use Rattle.multisets.specs.Values.{Held, sum_at, set_at}
-use Rattle.multisets.specs.Ends.{NextTable, Filled}
+use Rattle.multisets.specs.Ends.{Filled}
 
 -- the eight numbers from `at` on: how far the rank of multiset m of n with each role more lies behind m
 pub record Ups (n m : ℕ) (t : List ℕ) (at : ℕ) : Type 0 where
@@ -43,7 +43,6 @@ pub record Pushing (d : ℕ) (nexts up : List ℕ) (i next : ℕ) (ends from : L
   pub ahead : next ≡ first d (suc n) + m
   pub size : length up ≡ 8
   pub ups : Ups n m up 0
-  pub table : NextTable nexts
   pub filled : Filled d nexts (8 * i) ends from
 
 -- the levels up to n are made: their ends, and by which entries they came, and their sets of roles; and the rows that

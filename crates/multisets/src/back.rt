@@ -11,7 +11,7 @@ pub fn group(ends: &[u8], from: &[u16], n: usize, x: usize) -> [u8; 12]
 {
     let mut out = [255u8; 12];
     let mut at = x;
-    // Each entry tells where the one before it stands: turns of a loop, and no chain.
+    // Each entry tells where the one before it stands; of what `chunks_exact_mut` writes no proof would know.
     for left in (0..n).rev() {
         let entry = from[at];
         out[2 * left] = ends[at] - 1;

@@ -1,8 +1,39 @@
 // The least ends of groups, by the multiset of their roles. Where there is none an end is 255: the tables keep a byte
 // for each, and an Option of one takes two.
-ghost use Rattle.std.specs.Prelude.{◌≡◌, ℕ, ◌+◌, ◌*◌, ◌≤◌, ◌<◌, length, get_or};
+ghost use Rattle.std.specs.Prelude.{◌≡◌, ℕ, ◌+◌, ◌-◌, ◌*◌, ◌≤◌, ◌<◌, List, length, get_or, take, drop};
 ghost use Rattle.multisets.specs.Ends.{NextEnd, NextEnds, NextTable, Filled, Relaxed};
 ghost use Rattle.multisets.specs.Levels.{Pushing};
+
+use std::marker::Model;
+
+// Inner: at 8 times a place and a role, the end after the next user from there on who may act in the role; seen as its
+// bytes.
+#[derive(Clone, Copy)]
+pub struct Nexts {
+    pub(crate) ends: [u8; 200],
+}
+
+impl Model for Nexts {
+    ghost Value = { List ℕ };
+
+    ghost view = { λ nexts. nexts.ends };
+
+    ghost invariant = { λ nexts. NextTable nexts.ends };
+
+    ghost inverse = { λ ends. record { ends = ends } };
+}
+
+impl Nexts {
+    // Those of a place, one for each role below d.
+    fn behind(&self, end: usize, d: usize) -> &[u8]
+        requires { (end ≤ 24) × (d ≤ 8) }
+        ensures row { result.now ≡ take (8 * end + d - 8 * end) (drop (8 * end) self.now) }
+        ensures table { NextTable self.now }
+    {
+        let at = 8 * end;
+        &self.ends[at..at + d]
+    }
+}
 
 // The end after the next user from `from` on who may act in the role, or 255; `later` is that from the user after.
 fn end_from(sets: &[u8; 24], later: u8, from: usize, role: u8) -> u8
@@ -16,17 +47,17 @@ fn end_from(sets: &[u8; 24], later: u8, from: usize, role: u8) -> u8
     }
 }
 
-// Inner: these ends, at 8 times a place and a role; users from `users` on may act in no role.
-pub fn next_ends(sets: &[u8; 24], users: usize) -> [u8; 200]
+// Inner: these ends, by each user's set of roles; users from `users` on may act in no role.
+pub fn next_ends(sets: &[u8; 24], users: usize) -> Nexts
     requires { (users ≤ 24) × ((u : ℕ) → users ≤ u → get_or sets.now u 0 ≡ 0) }
-    ensures { NextEnds sets.now result × NextTable result }
+    ensures { NextEnds sets.now result }
 {
     let mut ends = [255u8; 200];
-    // Each end may be the one eight places on, which is written before it.
+    // Each end may be the one eight places on, written before it: a `zip` can't read the array that it writes.
     for at in (0..8 * users).rev() {
         ends[at] = end_from(sets, ends[at + 8], at / 8, (at % 8) as u8);
     }
-    ends
+    Nexts { ends }
 }
 
 // Keeps the smaller end at a place, and by which entry k it came.
@@ -43,7 +74,7 @@ fn relax(ends: &mut [u8], from: &mut [u16], at: usize, end: u8, k: u16)
 // Inner: what the multiset at place i leads to with each role more; `next` is its rank's place in the next level.
 pub fn push(
     d: usize,
-    nexts: &[u8],
+    nexts: &Nexts,
     up: &[u16],
     i: usize,
     next: usize,
@@ -57,14 +88,13 @@ pub fn push(
     if end == 255 {
         return;
     }
-    let at = 8 * (end as usize);
-    // The role's number counts both lists and goes into the entry.
-    for q in 0..d {
+    let row = nexts.behind(end as usize, d);
+    for (q, (later, ahead)) in row.iter().zip(up).enumerate() {
         relax(
             ends,
             from,
-            next + (up[q] as usize),
-            nexts[at + q],
+            next + (*ahead as usize),
+            *later,
             (8 * i + q) as u16,
         );
     }

@@ -1,10 +1,10 @@
 // The tables of a search, level by level.
 ghost use Rattle.std.specs.Prelude.{◌≡◌, ℕ, suc, ◌+◌, ◌*◌, ◌≤◌};
 ghost use Rattle.multisets.specs.Ranks.{first};
-ghost use Rattle.multisets.specs.Ends.{NextTable};
 ghost use Rattle.multisets.specs.Levels.{Summed};
 ghost use Rattle.multisets.specs.Laid.{Laid, Laid-prop};
 
+use crate::ends::Nexts;
 use crate::{Weighing, growth, values};
 
 // Inner: what is known of the multisets of at most six roles below d, for users by their next ends, up to the level of
@@ -14,7 +14,7 @@ use crate::{Weighing, growth, values};
 pub struct LevelTables<const ROWS: usize, const PLACES: usize> {
     pub d: usize,
     pub known: usize,
-    pub nexts: [u8; 200],
+    pub nexts: Nexts,
     pub rows: [u16; ROWS],
     pub ends: [u8; PLACES],
     pub from: [u16; PLACES],
@@ -25,10 +25,12 @@ pub struct LevelTables<const ROWS: usize, const PLACES: usize> {
 
 impl<const ROWS: usize, const PLACES: usize> LevelTables<ROWS, PLACES> {
     // Inner: tables that know the level of no role.
-    pub fn new(d: usize, nexts: [u8; 200]) -> Self
-        requires { (d ≤ 8) × NextTable nexts × (8 * first d 5 ≤ ROWS) × (first d 7 ≤ PLACES) }
+    pub fn new(d: usize, nexts: Nexts) -> Self
+        requires { (d ≤ 8) × (8 * first d 5 ≤ ROWS) × (first d 7 ≤ PLACES) }
         ensures { (result.d ≡ d) × (result.nexts ≡ nexts) }
     {
+        // Read for what is known of them.
+        let _ = &nexts.ends;
         let mut ends = [255u8; PLACES];
         ends[0] = 0;
         LevelTables {

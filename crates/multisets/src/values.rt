@@ -7,8 +7,8 @@ ghost use Rattle.multisets.specs.Levels.{Summed};
 use crate::Weighing;
 use crate::ranks::{first_in, start_in};
 
-// Writes from `to` on what `step` makes of the `count` numbers from `from` on. They stand in one table, so a range
-// counts them.
+// Writes from `to` on what `step` makes of the `count` numbers from `from` on. Both stand in one table, and of what
+// `iter_mut().zip(..)` writes into a part of it no proof would know.
 fn write_block<F: Fn(u8) -> u8>(t: &mut [u8], from: usize, to: usize, count: usize, step: F)
     requires { (from + count ≤ to) × (to + count ≤ length t.old) × (to + count ≤ 65535)
         × ((j : ℕ) → j < count → F.pre step (get_or t.old (from + j) 0)) }
@@ -31,7 +31,7 @@ fn next_level<F: Fn(u8, usize) -> u8>(d: usize, end: usize, n: usize, t: &mut [u
 {
     let before = first_in(d, n);
     let here = first_in(d, n + 1);
-    // Each block is written into the table that the blocks read.
+    // A role is a number here, and each block is written into the table that the blocks read.
     for r in 0..end {
         let to = here + start_in(n + 1, r);
         let largest = |value: u8| -> u8

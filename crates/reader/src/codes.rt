@@ -48,7 +48,7 @@ fn try_codes(x: u32, roles: u8) -> Tried
 {
     let mut rest = x;
     let mut tried: u8 = 0;
-    // By role, which indexes the table of codes.
+    // By role: it indexes two tables, and is compared with the number of roles.
     for r in 0..8usize {
         if rest == 1 {
             return Tried { ok: true, tried };

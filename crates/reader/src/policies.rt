@@ -2,10 +2,9 @@
 ghost use Rattle.std.specs.Prelude.{◌≡◌, false, ◌⊎◌, ◌≤◌, ◌<◌, List, ℕ};
 ghost use Rattle.reader.specs.Tables.{policies, table_of, record_count};
 ghost use Rattle.reader.specs.Fields.{policy_role, policy_permission, policy_weight, policy_type, policy_context};
-ghost use Rattle.reader.specs.Fields.{policy_rank, policy_issue_day};
 ghost use Rattle.reader.specs.Rules.{policies_bad, refusal_of};
 
-use crate::{Base, Table, bytes};
+use crate::{Base, Table};
 use std::marker::Model;
 
 // A table A that passed the check, seen as its bytes.
@@ -41,6 +40,14 @@ impl<'a> Policies<'a> {
         ensures passed { policies_bad 8 16 self.now ≡ false }
     {
         self.table.len() / 8
+    }
+
+    // Inner: the table's bytes; they passed the check.
+    pub fn bytes(&self) -> &'a [u8]
+        ensures bytes { result.now ≡ self.now }
+        ensures passed { policies_bad 8 16 self.now ≡ false }
+    {
+        self.table
     }
 
     // Inner: the role of policy i.
@@ -86,23 +93,5 @@ impl<'a> Policies<'a> {
     {
         let a = self.table;
         a[8 * i + 4]
-    }
-
-    // Inner: its granter's rank.
-    pub fn rank(&self, i: usize) -> u8
-        requires { i < record_count policies self.now }
-        ensures { result ≡ policy_rank self.now i }
-    {
-        let a = self.table;
-        a[8 * i + 5]
-    }
-
-    // Inner: its issue day.
-    pub fn issue_day(&self, i: usize) -> u16
-        requires { i < record_count policies self.now }
-        ensures { result ≡ policy_issue_day self.now i }
-    {
-        let a = self.table;
-        bytes::get16(a, 8 * i + 6)
     }
 }

@@ -2,11 +2,10 @@
 ghost use Rattle.std.specs.Prelude.{◌≡◌, false, ◌⊎◌, ℕ, ◌*◌, ◌≤◌, ◌<◌, length};
 ghost use Rattle.folds.specs.Sets.{in_set};
 ghost use Rattle.reader.specs.Tables.{contexts, record_count};
-ghost use Rattle.reader.specs.Rules.{contexts_bad};
+ghost use Rattle.reader.specs.Rules.{contexts_bad, policies_bad};
 ghost use Rattle.related.specs.Slots.{slot_of, number_at, named, related_slots, Relations};
 
 use crate::clauses::Clauses;
-use reader::Policies;
 use std::array;
 
 // Inner: the place of a context number: 0 to 15, and 16 for 255, which the format writes for no context.
@@ -24,10 +23,11 @@ fn number_at(s: u8) -> u8
 }
 
 // Inner: the set of the slots that the policies name.
-pub fn names(a: &Policies<'_>) -> u32
+pub fn names(a: &[u8]) -> u32
+    requires { policies_bad 8 256 a.now ≡ false }
     ensures { (s : ℕ) → in_set result s ≡ named a.now s }
 {
-    (0..a.count()).fold(0, |set, i| set | weights::sets::bit(slot(a.context(i))))
+    (0..a.len() / 8).fold(0, |set, i| set | weights::sets::bit(slot(a[8 * i + 4])))
 }
 
 // Slots s and t are named, s isn't above t, and their numbers are related.

@@ -2,11 +2,10 @@
 ghost use Rattle.std.specs.Prelude.{◌≡◌, ◌∷◌, ◌*◌, ◌≤◌, ◌<◌, length, replicate, IfSome, MatchOption};
 ghost use Rattle.reader.specs.Tables.{permission_count, role_count};
 ghost use Rattle.multisets.specs.Ranks.{first};
-ghost use Rattle.multisets.specs.Ends.{NextTable};
 ghost use Rattle.report.specs.Parts.{ActingSets, PartFor, FilledBy, Settled, decided, GroundsOf, UsersOf};
 
 use masks::Placed;
-use multisets::ends;
+use multisets::ends::{self, Nexts};
 use multisets::levels::LevelTables;
 use reader::{Base, Table, bytes};
 use seek::{Found, Masks};
@@ -85,10 +84,10 @@ fn part_for<const ROWS: usize, const PLACES: usize>(
 fn fill_in<const ROWS: usize, const PLACES: usize>(
     base: &Base<'_>,
     s: &Grounds,
-    nexts: [u8; 200],
+    nexts: Nexts,
     out: &mut [u8],
 ) -> u32
-    requires { GroundsOf base.now s.now × UsersOf base.now nexts × NextTable nexts
+    requires { GroundsOf base.now s.now × UsersOf base.now nexts
         × (8 * first (role_count base.now) 5 ≤ ROWS) × (first (role_count base.now) 7 ≤ PLACES)
         × (ROWS ≤ 3960) × (PLACES ≤ 3003)
         × (13 * permission_count base.now ≤ length out.old) }

@@ -1,13 +1,12 @@
 // Which policy overrides which: a resolution list of rules.
 #![tactic(auto)]
 
-ghost use Rattle.std.specs.Prelude.{◌≡◌, ◌≤◌, ◌<◌, IfOk, length, take};
+ghost use Rattle.std.specs.Prelude.{◌≡◌, ◌+◌, ◌*◌, ◌≤◌, ◌<◌, IfOk, length, take};
 ghost use Rattle.reader.specs.Refusals.{number_of};
-ghost use Rattle.reader.specs.Tables.{policies, record_count};
 ghost use Rattle.resolution.specs.Rules.{byte_of, Names};
 ghost use Rattle.resolution.specs.Resolution.{rule_before, goes_before, repeated, list_refused, lent};
 
-use reader::{Base, Policies, Refusal};
+use reader::{Base, Refusal, bytes};
 
 // What goes first of two policies: the later issue day, the larger rank number or the smaller weight.
 #[derive(Clone, Copy)]
@@ -33,15 +32,17 @@ impl TryFrom<u8> for Rule {
 }
 
 impl Rule {
-    // It puts policy i before policy j.
-    fn puts_before(self, a: &Policies<'_>, i: usize, j: usize) -> bool
-        requires { (i < record_count policies a.now) × (j < record_count policies a.now) }
+    // It puts policy i of the table A before policy j.
+    fn puts_before(self, a: &[u8], i: usize, j: usize) -> bool
+        requires { (8 * i + 8 ≤ length a.now) × (8 * j + 8 ≤ length a.now) }
         ensures { result ≡ rule_before (byte_of self) a.now i j }
     {
+        let x = 8 * i;
+        let y = 8 * j;
         match self {
-            Rule::LaterDay => a.issue_day(j) < a.issue_day(i),
-            Rule::LargerRank => a.rank(j) < a.rank(i),
-            Rule::SmallerWeight => a.weight(i) < a.weight(j),
+            Rule::LaterDay => bytes::get16(a, y + 6) < bytes::get16(a, x + 6),
+            Rule::LargerRank => a[y + 5] < a[x + 5],
+            Rule::SmallerWeight => a[x + 2] < a[y + 2],
         }
     }
 }
@@ -86,9 +87,9 @@ pub fn rules_of(list: &[u8]) -> [u8; 3]
     rules
 }
 
-// Inner: policy i goes before policy j by the rules of the list, or else by table order.
-pub fn goes_before(list: &[u8], a: &Policies<'_>, i: usize, j: usize) -> bool
-    requires { (i < record_count policies a.now) × (j < record_count policies a.now) }
+// Inner: policy i of the table A goes before policy j by the rules of the list, or else by table order.
+pub fn goes_before(list: &[u8], a: &[u8], i: usize, j: usize) -> bool
+    requires { (8 * i + 8 ≤ length a.now) × (8 * j + 8 ≤ length a.now) }
     ensures { result ≡ goes_before list.now a.now i j }
 {
     for &byte in list {

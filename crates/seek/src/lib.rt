@@ -75,20 +75,19 @@ impl Level<'_> {
         self.meeting_in(x, x + 8)
     }
 
-    // The same from `from` to before `end`, eight places at a time. The rest starts where the eights end, which a range
-    // by steps of eight wouldn't tell.
+    // The same from `from` to before `end`, eight places at a time and then the rest.
     fn meeting(&self, from: usize, end: usize) -> Option<usize>
         requires { Roomy end self.now × (from ≤ end) × (end ≤ 3003) }
         ensures { FoundAt (meets self.now) from end result }
     {
-        let mut x = from;
-        while x + 8 <= end {
-            if let Some(found) = self.meeting_in_eight(x) {
+        let eights = (end - from) / 8;
+        // No `find_map`: of the rest, called by `or_else` behind it, a proof knows nothing.
+        for i in 0..eights {
+            if let Some(found) = self.meeting_in_eight(from + 8 * i) {
                 return Some(found);
             }
-            x += 8;
         }
-        self.meeting_in(x, end)
+        self.meeting_in(from + 8 * eights, end)
     }
 }
 

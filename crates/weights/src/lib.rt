@@ -29,7 +29,8 @@ pub struct Context {
 }
 
 // What one base and context fix, with that context: the context numbers that hold, as a set, and each role's juniors,
-// a set a role; with them the rules of a resolution list, none without one.
+// a set a role; with them the rules of a resolution list, none without one. Base and setting stay two values: of a type
+// of both each clause would say `setting.now.base` and `setting.now.fixed` for `base.now` and `s`.
 #[derive(Clone, Copy)]
 pub struct Fixed {
     pub at: Context,
@@ -38,8 +39,7 @@ pub struct Fixed {
     pub rules: Rules,
 }
 
-// Inner: the juniors of each role of an accepted base. A type for them could say nothing of the base's table, which
-// their bytes don't name.
+// Inner: the juniors of each role of an accepted base.
 pub fn juniors_of_base(base: &Base<'_>) -> [u8; 8]
     ensures { Juniors (table_of base.now hierarchy) result }
 {

@@ -46,7 +46,7 @@ impl Kept {
             (set self.old.weight place (policy_weight a.now i)) self.old.weight) }
     {
         if self.weight[place] == 0
-            || resolution::goes_before(list, a, i, bytes::wide(self.policy[place]))
+            || resolution::goes_before(list, a.bytes(), i, bytes::wide(self.policy[place]))
         {
             self.policy[place] = i as u8;
             self.weight[place] = a.weight(i);

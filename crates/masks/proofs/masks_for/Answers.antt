@@ -10,6 +10,6 @@ sets_for-requires c =
 
 pub returns : goal.returns
 returns c =
-    let (size, narrowed) = c.clauses_met-asked.ensures in
+    let (size, narrowed) = rw c.of.ensures at c.clauses_met-asked.ensures in
     masks_made c.requires c.args.masks.now.sums (search rules) (search rules) size narrowed c.sets_for.ensures
     c.sets_below.ensures c.joined-reached.ensures c.rows_for.ensures

@@ -1,7 +1,7 @@
 -- The ends from a user on are made from those of the user after, role by role.
 use Rattle.std.proofs.Common.{ℕ, ◌+◌, ◌-◌, ◌/◌, ◌%◌, ◌≤◌, ◌<◌, List, ◌≡◌, refl, ◌∙◌, length, get_or, arith, rules}
 use lib.ListN.{set, length-set}
-use Rattle.multisets.specs.Ends.{NextEnd, NextEnds, NextTable}
+use Rattle.multisets.specs.Ends.{NextEnd, NextEnds}
 use Rattle.multisets.proofs.Nexts.{ends_start, ends_more, next_table}
 use Rattle.multisets.proofs.ends.next_ends.Invariants.{Turn}
 use Rattle.multisets.proofs.ends.next_ends.Goals as goal
@@ -19,14 +19,12 @@ turn_more {sets} {at} {ends} {end} all some few t step =
     }
 
 turn_end : {sets : List ℕ} {at : ℕ} {ends : List ℕ} → length sets ≡ 24 → at ≤ 0 → Turn sets at ends →
-    NextEnds sets ends × NextTable ends
-turn_end {sets} {at} {ends} all last t =
-    let n : NextEnds sets ends = record {
-      users = all;
-      size = t.size;
-      end = λ from r a k. t.end from r a k (omega arith);
-    } in
-    (n, next_table _ _ n)
+    NextEnds sets ends
+turn_end all last t = record {
+  users = all;
+  size = t.size;
+  end = λ from r a k. t.end from r a k (omega arith);
+}
 
 pub loop-at-init : goal.loop-at-init
 loop-at-init c =
@@ -37,6 +35,9 @@ pub loop-at-preserved : goal.loop-at-preserved
 loop-at-preserved c =
     let few : c.loop-at.at ≤ 192 = omega arith in
     turn_more (search rules) c.loop-at-test.true few c.loop-at.invariant c.end_from.ensures
+
+pub invariant_of-result : goal.invariant_of-result
+invariant_of-result c = next_table _ _ (turn_end (search rules) c.loop-at-test.false c.loop-at.invariant)
 
 pub returns : goal.returns
 returns c = turn_end (search rules) c.loop-at-test.false c.loop-at.invariant

@@ -6,7 +6,7 @@ use borrow.Author.Tests.{leb-true, leb-false}
 use Rattle.folds.proofs.Bools.{met_or_not}
 use Rattle.multisets.specs.Ranks.{starts, first}
 use Rattle.multisets.specs.Values.{Written}
-use Rattle.multisets.specs.Ends.{NextTable, Filled}
+use Rattle.multisets.specs.Ends.{Filled}
 use Rattle.multisets.specs.Levels.{Ups, Rows, Grown, Pushing}
 use Rattle.multisets.proofs.Blocks.{block, starts_le}
 use Rattle.multisets.proofs.Places.{first_le, place_lt}
@@ -81,9 +81,9 @@ module _ {d n r less here next last : ℕ} {fixed kept nexts : List ℕ} {j : �
       past : 4 < n + 1 → first d 5 ≤ here + j
       past h = let e = b.here_is in let f = b.few in omega (arith, first_le d 5 (suc n) (omega arith))
 
-  pushing : {up : List ℕ} → length up ≡ 8 → Ups (suc n) (starts (suc n) r + j) up 0 → NextTable nexts →
+  pushing : {up : List ℕ} → length up ≡ 8 → Ups (suc n) (starts (suc n) r + j) up 0 →
       Pushing d nexts up (here + j) (next + j) ends from
-  pushing size u table =
+  pushing size u =
       let few = b.few in
       let e = b.next_is in
       record {
@@ -96,7 +96,6 @@ module _ {d n r less here next last : ℕ} {fixed kept nexts : List ℕ} {j : �
         ahead = omega arith;
         size = size;
         ups = u;
-        table = table;
         filled = g.filled;
       }
 
@@ -132,7 +131,7 @@ pub push-requires : goal.push-requires
 push-requires c =
     let t = c.loop-j.invariant in
     let l = c.loop-j-test.true in
-    pushing t l c.ups_of-up.ensures.0 (made t l c.ups_of-up.ensures.1) c.requires.3
+    pushing t l c.ups_of-up.ensures.0 (made t l c.ups_of-up.ensures.1)
 
 pub loop-j-preserved : goal.loop-j-preserved
 loop-j-preserved c =

@@ -6,7 +6,7 @@ use Rattle.folds.specs.Below.{all_below}
 use Rattle.folds.proofs.Tests.{all_at}
 use Rattle.multisets.specs.Ranks.{starts, first}
 use Rattle.multisets.specs.Values.{Written}
-use Rattle.multisets.specs.Ends.{NextTable, Filled}
+use Rattle.multisets.specs.Ends.{Filled}
 use Rattle.multisets.specs.Levels.{Ups, Grown, Pushing}
 use Rattle.multisets.proofs.Blocks.{starts_empty}
 use Rattle.multisets.proofs.Places.{first_0, first_1, first_le}
@@ -34,8 +34,8 @@ module _ {d : ℕ} {nexts t ends from : List ℕ} (g : Grown d nexts (first d 0)
   start : Grown d nexts 0 t ends from
   start = rw (first_0 d) at g
 
-  pushing : d ≤ 8 → NextTable nexts → Pushing d nexts row 0 1 ends from
-  pushing most table = record {
+  pushing : d ≤ 8 → Pushing d nexts row 0 1 ends from
+  pushing most = record {
     n = 0;
     m = 0;
     most = most;
@@ -45,7 +45,6 @@ module _ {d : ℕ} {nexts t ends from : List ℕ} (g : Grown d nexts (first d 0)
     ahead = sym (add-zero (first d 1) ∙ first_1 d);
     size = refl;
     ups = ups;
-    table = table;
     filled = start.filled;
   }
 
@@ -57,10 +56,10 @@ module _ {d : ℕ} {nexts t ends from : List ℕ} (g : Grown d nexts (first d 0)
   })
 
 pub keep_row-requires : goal.keep_row-requires
-keep_row-requires c = (λ h. room c.requires.2, omega arith)
+keep_row-requires c = (λ h. room c.requires.1, omega arith)
 
 pub push-requires : goal.push-requires
-push-requires c = pushing c.requires.2 c.requires.0 c.requires.1
+push-requires c = pushing c.requires.1 c.requires.0
 
 pub returns : goal.returns
-returns c = grown c.requires.2 (c.keep_row.ensures.0 (omega arith)) c.push.ensures
+returns c = grown c.requires.1 (c.keep_row.ensures.0 (omega arith)) c.push.ensures

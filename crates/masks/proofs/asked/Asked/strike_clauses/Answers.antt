@@ -6,4 +6,4 @@ pub strike_clause-requires : goal.strike_clause-requires
 strike_clause-requires c =
     let turn = c.loop-rest.invariant in
     let size = turn.size in
-    (c.requires.0, in_table turn c.requires.1 c.some_clause-i.ensures.1, omega arith)
+    (in_table turn c.requires.0 c.some_clause-i.ensures.1, omega arith)

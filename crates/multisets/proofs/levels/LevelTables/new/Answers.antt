@@ -51,4 +51,5 @@ bounds-ends-0 g c = let some = one_room c.args.d in let room : 0 < g.row.PLACES 
 
 pub invariant_of-result : goal.invariant_of-result
 invariant_of-result g c =
-    record { laid = begun c.requires.0 c.requires.1 c.requires.2 c.requires.3 }
+    let (most, rows, places) = c.requires in
+    record { laid = begun most (rw c.nexts.view_is at c.nexts.invariant) rows places }

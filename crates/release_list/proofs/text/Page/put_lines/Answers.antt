@@ -1,6 +1,6 @@
 -- Each part, as it is cut off those left, is that of the definition, and its line is put behind those before it.
-use Rattle.std.proofs.Common.{ℕ, ◌+◌, ◌-◌, ◌*◌, ◌<◌, ◌≤◌, ◌≡◌, refl, sym, ap, ◌∙◌, List, ◌++◌, length, take}
-use Rattle.std.proofs.Common.{drop, get_or, arith, rules}
+use Rattle.std.proofs.Common.{ℕ, ◌+◌, ◌-◌, ◌*◌, ◌<◌, ◌≤◌, ◌≡◌, refl, sym, ap, ◌∙◌, List, ◌++◌, length}
+use Rattle.std.proofs.Common.{take, drop, get_or, arith, rules}
 use mathlib.Core.Logic.{⊎_elim}
 use native.Mathlib.Nat.{add-zero}
 use lib.ListN.{length-drop, get_or-append}
