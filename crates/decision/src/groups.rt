@@ -1,8 +1,8 @@
-// A group's entries, and refusals 12 to 15.
-ghost use Rattle.std.specs.Prelude.{◌≡◌, ◌+◌, ◌*◌, ◌≤◌, length};
+// A group's entries and its attributes: refusals 12 to 16.
+ghost use Rattle.std.specs.Prelude.{◌≡◌, ℕ, ◌+◌, ◌*◌, ◌≤◌, ◌<◌, length, get_or};
 ghost use Rattle.weights.specs.Acting.{may_act};
-ghost use Rattle.decision.specs.Groups.{entry_user, entry_role, length_refused};
-ghost use Rattle.decision.specs.Groups.{some_unknown, stands_before, some_twice, some_ineligible};
+ghost use Rattle.decision.specs.Groups.{entry_count, entry_user, entry_role, sum_of, roles_of, length_refused};
+ghost use Rattle.decision.specs.Groups.{some_unknown, stands_before, some_twice, some_ineligible, some_weightless};
 
 use weights::acting::Acting;
 
@@ -65,4 +65,45 @@ pub fn some_ineligible(g: &[u8], acting: &Acting<'_>) -> bool
         let Entry { user, role } = Entry::of(g, i);
         !acting.may_act(user as usize, role as usize)
     })
+}
+
+// What follows asks of any bytes just what it needs; `Members` says it once, for callers.
+
+// Inner: refusal 16, for roles below 8.
+pub fn some_weightless(g: &[u8], w: [u8; 8]) -> bool
+    requires { (i : ℕ) → i < entry_count g.now → entry_role g.now i < 8 }
+    ensures { result ≡ some_weightless (λ k. get_or w k 0) g.now }
+{
+    (0..g.len() / 2).any(|i| w[Entry::of(g, i).role as usize] == 0)
+}
+
+// Inner: the number of entries of a group that is not too long.
+pub fn entry_count(g: &[u8]) -> u32
+    requires { length g.now ≤ 12 }
+    ensures { result ≡ entry_count g.now }
+{
+    (g.len() / 2) as u32
+}
+
+// Inner: the sum of the roles' weights.
+pub fn sum_of(g: &[u8], w: [u8; 8]) -> u32
+    requires { (length g.now ≤ 12) ×
+        ((i : ℕ) → i < entry_count g.now → entry_role g.now i < 8) ×
+        ((r : ℕ) → r < 8 → get_or w r 0 ≤ 40) }
+    ensures { (result ≡ sum_of (λ k. get_or w k 0) g.now) × (result ≤ 240) }
+{
+    (0..g.len() / 2)
+        .map(|i| w[Entry::of(g, i).role as usize] as u32)
+        .sum()
+}
+
+// Inner: the set of the roles acted in.
+pub fn roles_of(g: &[u8]) -> u8
+    requires { (i : ℕ) → i < entry_count g.now → entry_role g.now i < 8 }
+    ensures { result ≡ roles_of g.now }
+{
+    (0..g.len() / 2).fold(
+        0,
+        |set, i| set | weights::sets::role_bit(Entry::of(g, i).role),
+    )
 }

@@ -69,15 +69,16 @@ pub fn decide_checked(
     ensures { number_of result ≡ group_decision (rules_of s) base.now s.at permission group.now }
 {
     let members = Members::of(&Acting::by(base, s.juniors), group)?;
+    let group = members.bytes();
     let k = base.part(Table::Clauses);
     let w = weights::choose(base, s).role_weights(s.juniors, permission);
-    if members.some_weightless(w) {
+    if groups::some_weightless(group, w) {
         return Err(Refusal::Weightless);
     }
     let attributes = Attributes {
-        entries: members.entry_count(),
-        sum: members.sum_of(w),
-        roles: members.roles_of(),
+        entries: groups::entry_count(group),
+        sum: groups::sum_of(group, w),
+        roles: groups::roles_of(group),
     };
     if conditions::permission_holds(k, permission, attributes) {
         return Ok(());

@@ -1,11 +1,10 @@
-// A group that 12 to 15 don't refuse: refusal 16, and the group's attributes.
-ghost use Rattle.std.specs.Prelude.{◌≡◌, ℕ, ◌≤◌, ◌<◌, IfOk, List, get_or};
+// A group that 12 to 15 don't refuse.
+ghost use Rattle.std.specs.Prelude.{◌≡◌, ℕ, IfOk, List};
 ghost use Rattle.reader.specs.Refusals.{number_of};
-ghost use Rattle.decision.specs.Groups.{entry_count, sum_of, roles_of, some_weightless};
 ghost use Rattle.decision.specs.Decision.{members_of};
 ghost use Rattle.decision.specs.Members.{Seated};
 
-use crate::groups::{self, Entry};
+use crate::groups;
 use reader::Refusal;
 use std::marker::Model;
 use weights::acting::Acting;
@@ -51,42 +50,5 @@ impl<'a> Members<'a> {
         ensures seated { Seated self.now }
     {
         self.group
-    }
-
-    // Inner: refusal 16.
-    pub fn some_weightless(&self, w: [u8; 8]) -> bool
-        ensures { result ≡ some_weightless (λ k. get_or w k 0) self.now }
-    {
-        let g = self.group;
-        (0..g.len() / 2).any(|i| w[Entry::of(g, i).role as usize] == 0)
-    }
-
-    // Inner: the number of entries.
-    pub fn entry_count(&self) -> u32
-        ensures { result ≡ entry_count self.now }
-    {
-        (self.group.len() / 2) as u32
-    }
-
-    // Inner: the sum of the roles' weights.
-    pub fn sum_of(&self, w: [u8; 8]) -> u32
-        requires { (r : ℕ) → r < 8 → get_or w r 0 ≤ 40 }
-        ensures { (result ≡ sum_of (λ k. get_or w k 0) self.now) × (result ≤ 240) }
-    {
-        let g = self.group;
-        (0..g.len() / 2)
-            .map(|i| w[Entry::of(g, i).role as usize] as u32)
-            .sum()
-    }
-
-    // Inner: the set of the roles acted in.
-    pub fn roles_of(&self) -> u8
-        ensures { result ≡ roles_of self.now }
-    {
-        let g = self.group;
-        (0..g.len() / 2).fold(
-            0,
-            |set, i| set | weights::sets::role_bit(Entry::of(g, i).role),
-        )
     }
 }

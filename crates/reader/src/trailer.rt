@@ -65,7 +65,7 @@ fn length_bad(base: &[u8]) -> bool
 
 // A lent base that is long enough for a trailer, seen as its bytes.
 #[derive(Drop)]
-struct Trailer<'a> {
+pub struct Trailer<'a> {
     base: &'a [u8],
 }
 
@@ -78,6 +78,14 @@ impl<'a> Model for Trailer<'a> {
 }
 
 impl<'a> Trailer<'a> {
+    // Inner: the trailer of such a base.
+    pub fn of(base: &'a [u8]) -> Trailer<'a>
+        requires { 36 ≤ length base.now }
+        ensures { result ≡ base.now }
+    {
+        Trailer { base }
+    }
+
     fn table_offset(&self, t: usize) -> usize
         requires { t < 7 }
         ensures { (result ≡ table_offset self.now t) × (result < 65536) }
@@ -94,7 +102,8 @@ impl<'a> Trailer<'a> {
         bytes::get16(base, base.len() - 36 + 4 * t + 2) as usize
     }
 
-    fn role_count(&self) -> u8
+    // Inner: R.
+    pub fn role_count(&self) -> u8
         ensures { result ≡ role_count self.now }
     {
         let base = self.base;
@@ -175,7 +184,7 @@ impl<'a> Frame<'a> {
         if length_bad(base) {
             return Err(Refusal::BaseLength);
         }
-        let trailer = Trailer { base };
+        let trailer = Trailer::of(base);
         if trailer.letters_bad() {
             return Err(Refusal::Letters);
         }

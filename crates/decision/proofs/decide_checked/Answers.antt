@@ -85,15 +85,18 @@ role_weights-w-requires c = lt_of_lt_of_le c.requires.0 (permissions_le _ (accep
 
 pub returns-then-some_weightless : goal.returns-then-some_weightless
 returns-then-some_weightless c =
-    let k = known c.part-k.ensures.accepted c.by.ensures c.in_ok-members.ensures.same c.in_ok-members.ensures.number in
+    let same = c.bytes-group.ensures.bytes ∙ c.in_ok-members.ensures.same in
+    let k = known c.part-k.ensures.accepted c.by.ensures same c.in_ok-members.ensures.number in
     let are = c.role_weights-w.ensures _ _ _ c.part-k.ensures.accepted c.choose.ensures c.requires.1.juniors in
     by_16 _ _ _ _ _ k (weightless_is _ _ _ _ _ k are c.if-some_weightless.ensures)
-    ∙ ap (group_decision (rules_of c.args.s) c.args.base.now c.args.s.at c.args.permission) c.in_ok-members.ensures.same
+    ∙ ap (group_decision (rules_of c.args.s) c.args.base.now c.args.s.at c.args.permission) same
 
 pub sum_of-requires : goal.sum_of-requires
 sum_of-requires c =
     let ok = c.part-k.ensures.accepted in
-    weights_le _ ok _ _ _ _ (c.role_weights-w.ensures _ _ _ ok c.choose.ensures c.requires.1.juniors)
+    let are = c.role_weights-w.ensures _ _ _ ok c.choose.ensures c.requires.1.juniors in
+    let seated = c.bytes-group.ensures.seated in
+    rw c.bytes-group.ensures.bytes (seated.few, seated.low, weights_le _ ok _ _ _ _ are)
 
 pub permission_holds-requires : goal.permission_holds-requires
 permission_holds-requires c =
@@ -101,18 +104,20 @@ permission_holds-requires c =
 
 pub returns-then-permission_holds : goal.returns-then-permission_holds
 returns-then-permission_holds c =
-    let k = known c.part-k.ensures.accepted c.by.ensures c.in_ok-members.ensures.same c.in_ok-members.ensures.number in
+    let same = c.bytes-group.ensures.bytes ∙ c.in_ok-members.ensures.same in
+    let k = known c.part-k.ensures.accepted c.by.ensures same c.in_ok-members.ensures.number in
     let are = c.role_weights-w.ensures _ _ _ c.part-k.ensures.accepted c.choose.ensures c.requires.1.juniors in
     by_0 _ _ _ _ _ k (weightless_is _ _ _ _ _ k are c.if-some_weightless.ensures)
     (holds_is _ _ _ _ _ k are c.if-permission_holds.ensures c.part-k.ensures.table c.entry_count.ensures
     c.sum_of.ensures.0 c.roles_of.ensures)
-    ∙ ap (group_decision (rules_of c.args.s) c.args.base.now c.args.s.at c.args.permission) c.in_ok-members.ensures.same
+    ∙ ap (group_decision (rules_of c.args.s) c.args.base.now c.args.s.at c.args.permission) same
 
 pub returns : goal.returns
 returns c =
-    let k = known c.part-k.ensures.accepted c.by.ensures c.in_ok-members.ensures.same c.in_ok-members.ensures.number in
+    let same = c.bytes-group.ensures.bytes ∙ c.in_ok-members.ensures.same in
+    let k = known c.part-k.ensures.accepted c.by.ensures same c.in_ok-members.ensures.number in
     let are = c.role_weights-w.ensures _ _ _ c.part-k.ensures.accepted c.choose.ensures c.requires.1.juniors in
     by_17 _ _ _ _ _ k (weightless_is _ _ _ _ _ k are c.if-some_weightless.ensures)
     (holds_is _ _ _ _ _ k are c.if-permission_holds.ensures c.part-k.ensures.table c.entry_count.ensures
     c.sum_of.ensures.0 c.roles_of.ensures)
-    ∙ ap (group_decision (rules_of c.args.s) c.args.base.now c.args.s.at c.args.permission) c.in_ok-members.ensures.same
+    ∙ ap (group_decision (rules_of c.args.s) c.args.base.now c.args.s.at c.args.permission) same

@@ -8,8 +8,8 @@ pub returns-then-length_bad : goal.returns-then-length_bad
 unfolding frame_refusal
 returns-then-length_bad c = search rules
 
-pub invariant_of-trailer : goal.invariant_of-trailer
-invariant_of-trailer c = long_enough _ (sym c.length_bad.ensures ∙ c.if-length_bad.false)
+pub of-trailer-requires : goal.of-trailer-requires
+of-trailer-requires c = long_enough _ (sym c.length_bad.ensures ∙ c.if-length_bad.false)
 
 pub returns-then-letters_bad : goal.returns-then-letters_bad
 unfolding frame_refusal

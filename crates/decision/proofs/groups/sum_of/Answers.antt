@@ -1,10 +1,10 @@
 -- `sum_of` meets its contract: at most 6 weights of at most 40 are added.
-use Rattle.std.proofs.Common.{ℕ, List, ◌≤◌, ◌<◌, ◌/◌, ap, ◌∙◌, length, get_or, rules, arith}
+use Rattle.std.proofs.Common.{ℕ, List, ◌≤◌, ◌<◌, ◌/◌, length, get_or, rules, arith}
 use Rattle.folds.specs.Below.{sum_below}
 use Rattle.folds.proofs.Numbers.{sum_le}
 use Rattle.decision.specs.Groups.{entry_role, sum_of}
 use Rattle.folds.proofs.Chains.{sum_of_range, fits_of_range}
-use Rattle.decision.proofs.members.Members.sum_of.Goals as goal
+use Rattle.decision.proofs.groups.sum_of.Goals as goal
 
 abbrev weight_at : List ℕ → List ℕ → ℕ → ℕ
 weight_at w g i = get_or w (entry_role g i) 0
@@ -17,17 +17,15 @@ most w g few low light =
 
 pub sum-requires-clause-fits : goal.sum-requires-clause-fits
 sum-requires-clause-fits c =
-    let g = c.self.inside.group.now in
-    let top = most c.args.w g c.self.invariant.few c.self.invariant.low c.requires in
-    fits_of_range (weight_at c.args.w g) (length g / 2) (cc) c.map.ensures.closure
+    let (few, low, light) = c.requires in
+    let top = most c.args.w c.args.g.now few low light in
+    fits_of_range (weight_at c.args.w c.args.g.now) (length c.args.g.now / 2) (cc) c.map.ensures.closure
     (λ x r q k. search rules) _ (omega arith)
 
 pub returns : goal.returns
 unfolding sum_of
 returns c =
-    let g = c.self.inside.group.now in
-    let is = sum_of_range (weight_at c.args.w g) (length g / 2) (cc) c.map.ensures.closure
-    (λ x r q k. search rules) c.sum.ensures.ran in (
-      is ∙ ap (sum_of (λ k. get_or c.args.w k 0)) c.self.view_is,
-      rw is (most c.args.w g c.self.invariant.few c.self.invariant.low c.requires),
-    )
+    let (few, low, light) = c.requires in
+    let is = sum_of_range (weight_at c.args.w c.args.g.now) (length c.args.g.now / 2) (cc) c.map.ensures.closure
+    (λ x r q k. search rules) c.sum.ensures.ran in
+    (is, rw is (most c.args.w c.args.g.now few low light))
