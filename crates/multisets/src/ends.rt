@@ -1,5 +1,5 @@
-// The least ends of groups, by the multiset of their roles. Where there is none an end is 255: the tables keep a byte
-// for each, and an Option of one takes two.
+// The least ends of groups, by the multiset of their roles. Where there is none an end is 255, the largest number of a
+// byte: of two ends the smaller is kept, whether or not there is one.
 ghost use Rattle.std.specs.Prelude.{◌≡◌, ℕ, ◌+◌, ◌*◌, ◌≤◌, ◌<◌, List, length, get_or, take, drop};
 ghost use Rattle.multisets.specs.Ends.{NextEnd, NextEnds, NextTable, Filled, Relaxed};
 ghost use Rattle.multisets.specs.Levels.{Pushing};
