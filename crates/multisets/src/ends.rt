@@ -6,8 +6,8 @@ ghost use Rattle.multisets.specs.Levels.{Pushing};
 
 use std::marker::Model;
 
-// Inner: at 8 * place + role the end after the next user from there on who may act in the role, at most 24, or 255; seen
-// as its bytes. Whose users they are `NextEnds` says.
+// Inner: at 8 * place + role the end after the next user from there on who may act in the role, at most 24, or 255;
+// seen as its bytes. Whose users they are `NextEnds` says.
 #[derive(Clone, Copy)]
 pub struct Nexts {
     pub(crate) ends: [u8; 200],
