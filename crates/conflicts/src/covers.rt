@@ -2,7 +2,7 @@
 ghost use Rattle.std.specs.Prelude.{◌≡◌, false, ◌&&◌, ◌||◌, ℕ, ◌/◌, ◌<◌, List, length, get_or, eqb};
 ghost use Rattle.folds.specs.Sets.{in_set};
 ghost use Rattle.reader.specs.Tables.{policies, record_count};
-ghost use Rattle.reader.specs.Rules.{hierarchy_bad, exclusions_bad};
+ghost use Rattle.reader.specs.Rules.{exclusions_bad};
 ghost use Rattle.weights.specs.Setting.{Juniors};
 ghost use Rattle.conflicts.specs.Conflicts.{covers, excludes};
 ghost use Rattle.conflicts.specs.Rows.{Covers, Excluded};
@@ -35,14 +35,12 @@ fn cover(a: &Policies<'_>, i: usize, juniors: &[u8; 8]) -> u8
     }
 }
 
-// Inner: the sets of the roles that the policies cover.
-pub fn cover_sets(h: &[u8], a: &Policies<'_>) -> [u8; 64]
-    requires { hierarchy_bad 8 h.now ≡ false }
-    ensures { Covers h.now a.now result }
+// Inner: the sets of the roles that the policies cover, by each role's juniors.
+pub fn cover_sets(juniors: &[u8; 8], a: &Policies<'_>) -> [u8; 64]
+    ensures { (h : List ℕ) → Juniors h juniors.now → Covers h a.now result }
 {
-    let juniors = weights::seniority::juniors(h);
     let mut sets = [0; 64];
-    filling::fill(&mut sets, a.count(), |i| cover(a, i, &juniors));
+    filling::fill(&mut sets, a.count(), |i| cover(a, i, juniors));
     sets
 }
 

@@ -151,7 +151,7 @@ pub fn overlaps(base: &Base<'_>) -> Conflicts
     ensures rows { Overlaps base.now result.rows }
 {
     let a = base.policies();
-    let covered = covers::cover_sets(base.part(Table::Hierarchy), &a);
+    let covered = covers::cover_sets(&weights::juniors_of_base(base), &a);
     let apart = covers::excluded_sets(base.part(Table::Exclusions));
     let firsts = a.count();
     let mut found = Conflicts {

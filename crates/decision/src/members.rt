@@ -1,4 +1,4 @@
-// A group that 12 to 15 don't refuse.
+// A group that passed 12 to 15.
 ghost use Rattle.std.specs.Prelude.{◌≡◌, ℕ, IfOk, List};
 ghost use Rattle.reader.specs.Refusals.{number_of};
 ghost use Rattle.decision.specs.Decision.{members_of};
@@ -9,7 +9,8 @@ use reader::Refusal;
 use std::marker::Model;
 use weights::acting::Acting;
 
-// Such a group, seen as its bytes: at most six entries, in roles below 8.
+// Made of a group that 12 to 15 don't refuse, and seen as its bytes; of what they asked it keeps that it has at most
+// twelve, and that its roles are below 8.
 #[derive(Drop)]
 pub struct Members<'a> {
     group: &'a [u8],

@@ -8,7 +8,7 @@ use reader::clauses::GroupCondition;
 use reader::conditions::{self, Condition};
 use std::marker::Model;
 
-// A table K that passed the check, seen as its bytes.
+// A table K that passes the check with some numbers of roles and permissions, seen as its bytes.
 #[derive(Drop)]
 pub struct GroupClauses<'a> {
     table: &'a [u8],

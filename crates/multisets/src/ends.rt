@@ -1,13 +1,13 @@
-// The least ends of groups, by the multiset of their roles. Where there is none an end is 255: the tables keep a byte
-// for each, and an Option of one takes two.
-ghost use Rattle.std.specs.Prelude.{◌≡◌, ℕ, ◌+◌, ◌-◌, ◌*◌, ◌≤◌, ◌<◌, List, length, get_or, take, drop};
+// The least ends of groups, by the multiset of their roles. Where there is none an end is 255, the largest number of a
+// byte: of two ends the smaller is kept, whether or not there is one.
+ghost use Rattle.std.specs.Prelude.{◌≡◌, ℕ, ◌+◌, ◌*◌, ◌≤◌, ◌<◌, List, length, get_or, take, drop};
 ghost use Rattle.multisets.specs.Ends.{NextEnd, NextEnds, NextTable, Filled, Relaxed};
 ghost use Rattle.multisets.specs.Levels.{Pushing};
 
 use std::marker::Model;
 
-// Inner: at 8 times a place and a role, the end after the next user from there on who may act in the role; seen as its
-// bytes.
+// Inner: at 8 * place + role the end after the next user from there on who may act in the role, at most 24, or 255;
+// seen as its bytes. Whose users they are `NextEnds` says.
 #[derive(Clone, Copy)]
 pub struct Nexts {
     pub(crate) ends: [u8; 200],
@@ -27,7 +27,7 @@ impl Nexts {
     // Those of a place, one for each role below d.
     fn behind(&self, end: usize, d: usize) -> &[u8]
         requires { (end ≤ 24) × (d ≤ 8) }
-        ensures row { result.now ≡ take (8 * end + d - 8 * end) (drop (8 * end) self.now) }
+        ensures row { result.now ≡ take d (drop (8 * end) self.now) }
         ensures table { NextTable self.now }
     {
         let at = 8 * end;

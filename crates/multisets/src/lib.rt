@@ -10,8 +10,8 @@ pub mod levels;
 pub mod ranks;
 mod values;
 
-// What a search weighs by: the roles' weights, none above 40 and none from `end` on above 0; and the sum of the entries
-// placed before.
+// What a search weighs by: the roles' weights, none above 40; where they end (that none from there on is above 0 is the
+// search's to ask); and the sum of the entries placed before.
 #[derive(Clone, Copy)]
 pub struct Weighing {
     pub w: [u8; 8],

@@ -7,7 +7,7 @@ ghost use Rattle.reader.specs.Rules.{policies_bad, refusal_of};
 use crate::{Base, Table};
 use std::marker::Model;
 
-// A table A that passed the check, seen as its bytes.
+// A table A that passes the check with 8 roles and 16 permissions, seen as its bytes.
 #[derive(Drop)]
 pub struct Policies<'a> {
     table: &'a [u8],

@@ -78,7 +78,7 @@ impl<'a> Model for Trailer<'a> {
 }
 
 impl<'a> Trailer<'a> {
-    // Inner: the trailer of such a base.
+    // Inner: such a base.
     pub fn of(base: &'a [u8]) -> Trailer<'a>
         requires { 36 ≤ length base.now }
         ensures { result ≡ base.now }

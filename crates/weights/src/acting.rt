@@ -26,7 +26,7 @@ impl<'a> Model for Acting<'a> {
 }
 
 impl<'a> Acting<'a> {
-    // Inner: who may act, by the base with these juniors.
+    // Inner: who may act, by the base's juniors worked out before.
     pub fn by(base: &'a Base<'a>, juniors: [u8; 8]) -> Acting<'a>
         requires { Juniors (table_of base.now hierarchy) juniors }
         ensures { result ≡ base.now }
@@ -34,7 +34,7 @@ impl<'a> Acting<'a> {
         Acting { base, juniors }
     }
 
-    // Inner: who may act, by the base's own hierarchy.
+    // Inner: who may act, by the base's juniors worked out here.
     pub fn of(base: &'a Base<'a>) -> Acting<'a>
         ensures { result ≡ base.now }
     {

@@ -1,10 +1,10 @@
 -- `contradictions` meets its contract: the rows by the related slots are those of the rules.
-use Rattle.std.proofs.Common.{ℕ, ◌≡◌, ◌/◌, List, length, rules}
+use Rattle.std.proofs.Common.{ℕ, ◌≡◌, ◌/◌, List, length, rules, arith}
 use lib.Dec.{lit<}
 use Rattle.folds.specs.Sets.{in_set}
 use Rattle.reader.specs.Tables.{contexts, policies, table_of}
 use Rattle.reader.specs.Rules.{refusal_of}
-use Rattle.reader.proofs.Accepted.{accepted}
+use Rattle.reader.proofs.Accepted.{accepted, policies_wider}
 use Rattle.related.specs.Slots.{named, Relations}
 use Rattle.related.proofs.Relating.{whole_contexts}
 use Rattle.conflicts.specs.Rows.{contradict_by, Rows, Contradictions}
@@ -18,6 +18,10 @@ found : (b : List ℕ) {a c related rows : List ℕ} {names : ℕ} → refusal_o
     Rows (length a / 8) (length a / 8) (contradict_by related a) rows → Contradictions b rows
 found b ok a_is c_is relations named_are are =
     contradictions_found b ok _ _ _ (rw c_is at relations) (rw a_is at named_are) (rw a_is at are)
+
+pub names-names-requires : goal.names-names-requires
+names-names-requires c =
+    rw c.bytes.ensures.bytes (policies_wider 8 16 8 256 _ (omega arith) (omega arith) c.bytes.ensures.passed)
 
 pub relations-related-requires : goal.relations-related-requires
 relations-related-requires c =
@@ -36,5 +40,6 @@ pub returns-clause-rows : goal.returns-clause-rows
 returns-clause-rows c =
     let a = c.policies-a.ensures in
     let (is, few) = c.count-firsts.ensures.count in
-    found _ a.accepted a.policies c.part.ensures.table c.relations-related.ensures c.names-names.ensures
+    found _ a.accepted a.policies c.part.ensures.table c.relations-related.ensures
+    (rw c.bytes.ensures.bytes at c.names-names.ensures)
     (record { row = λ i j l. let row = c.fill.ensures i 0 (rw is l) in search rules })

@@ -5,30 +5,23 @@ use Rattle.reader.specs.Tables.{hierarchy, policies, exclusions, table_of}
 use Rattle.reader.specs.Rules.{refusal_of}
 use Rattle.reader.proofs.Accepted.{accepted}
 use Rattle.reader.proofs.Frame.{roles_range, permissions_le}
-use Rattle.weights.proofs.Chains.{hierarchy_wider}
 use Rattle.conflicts.specs.Rows.{Covers, Excluded, overlap_by, Rows, Overlaps}
 use Rattle.conflicts.proofs.Tables.{exclusions_wider}
 use Rattle.conflicts.proofs.Found.{overlaps_found}
 use Rattle.conflicts.proofs.rows.overlaps.Goals as goal
 
 -- the rows of tables read are those of the base
-found : (b : List ℕ) {a h x covered apart rows : List ℕ} → refusal_of b ≡ 0 →
-    a ≡ table_of b policies → h ≡ table_of b hierarchy → x ≡ table_of b exclusions →
-    Covers h a covered → Excluded x apart →
+found : (b : List ℕ) {a x covered apart rows : List ℕ} → refusal_of b ≡ 0 →
+    a ≡ table_of b policies → x ≡ table_of b exclusions → Covers (table_of b hierarchy) a covered → Excluded x apart →
     Rows (length a / 8) (length a / 8) (overlap_by apart covered a) rows → Overlaps b rows
-found b ok a_is h_is x_is covers excluded are =
-    overlaps_found b ok _ _ _ (rw (a_is, h_is) at covers) (rw x_is at excluded) (rw a_is at are)
-
-pub cover_sets-covered-requires : goal.cover_sets-covered-requires
-cover_sets-covered-requires c =
-    let f = accepted _ c.part.ensures.accepted in
-    rw c.part.ensures.table (hierarchy_wider _ _ (roles_range _ f.frame).1 f.hierarchy)
+found b ok a_is x_is covers excluded are =
+    overlaps_found b ok _ _ _ (rw a_is at covers) (rw x_is at excluded) (rw a_is at are)
 
 pub excluded_sets-apart-requires : goal.excluded_sets-apart-requires
 excluded_sets-apart-requires c =
-    let f = accepted _ c.part-2.ensures.accepted in
+    let f = accepted _ c.part.ensures.accepted in
     let roles = (roles_range _ f.frame).1 in
-    rw c.part-2.ensures.table (exclusions_wider _ _ 8 16 _ roles (permissions_le _ f.frame) f.exclusions)
+    rw c.part.ensures.table (exclusions_wider _ _ 8 16 _ roles (permissions_le _ f.frame) f.exclusions)
 
 pub fill-requires : goal.fill-requires
 fill-requires c =
@@ -42,5 +35,6 @@ pub returns-clause-rows : goal.returns-clause-rows
 returns-clause-rows c =
     let a = c.policies-a.ensures in
     let (is, few) = c.count-firsts.ensures.count in
-    found _ a.accepted a.policies c.part.ensures.table c.part-2.ensures.table c.cover_sets-covered.ensures
+    found _ a.accepted a.policies c.part.ensures.table
+    (c.cover_sets-covered.ensures _ c.juniors_of_base.ensures)
     c.excluded_sets-apart.ensures (record { row = λ i j l. let row = c.fill.ensures i 0 (rw is l) in search rules })

@@ -1,5 +1,5 @@
 -- Role by role, the multiset with that role more keeps the smaller end.
-use Rattle.std.proofs.Common.{ℕ, suc, ◌+◌, ◌-◌, ◌*◌, ◌≤◌, ◌<◌, List, ◌∷◌, ◌≡◌, ◌∙◌, refl, sym, ap, drop, length}
+use Rattle.std.proofs.Common.{ℕ, suc, ◌+◌, ◌*◌, ◌≤◌, ◌<◌, List, ◌∷◌, ◌≡◌, ◌∙◌, refl, sym, ap, drop, length}
 use Rattle.std.proofs.Common.{get_or, arith, rules}
 use mathlib.Core.Logic.{⊎_elim}
 use native.Mathlib.Nat.{zero-add, add-zero}
@@ -41,7 +41,7 @@ module _ {d : ℕ} {nexts up : List ℕ} {i next : ℕ} {ends from : List ℕ} (
       let end = get_or ends i 0 in
       omega (
         arith,
-        length-take (8 * end + d - 8 * end) (drop (8 * end) nexts),
+        length-take d (drop (8 * end) nexts),
         length-drop (8 * end) nexts,
         table.size,
         p.most,
@@ -73,7 +73,7 @@ module _ {d : ℕ} {nexts up : List ℕ} {i next : ℕ} {ends₀ from₀ : List 
   role : q < d
   role =
       let l = some_left (row d nexts end) q turn.left cut.0 in
-      omega (arith, length-take (8 * end + d - 8 * end) (drop (8 * end) nexts))
+      omega (arith, length-take d (drop (8 * end) nexts))
 
   grows : Grows d p.n p.m q (8 * i + q)
   grows = record { few = p.few; some = p.some; role = role; is = rw p.place }
@@ -97,7 +97,7 @@ module _ {d : ℕ} {nexts up : List ℕ} {i next : ℕ} {ends₀ from₀ : List 
   is_next : x ≡ get_or nexts (8 * get_or ends (first d p.n + p.m) 0 + q) 0
   is_next =
       first_is (row d nexts end) q turn.left cut.0
-      ∙ get_or-take (8 * end + d - 8 * end) (drop (8 * end) nexts) q 0 (omega (arith, role))
+      ∙ get_or-take d (drop (8 * end) nexts) q 0 (omega (arith, role))
       ∙ get_or-drop (8 * end) nexts q 0 ∙ rw is_end
 
   target_lt : next + ahead < first d 7

@@ -1,10 +1,10 @@
-use Rattle.std.proofs.Common.{ℕ, ◌+◌, ◌-◌, ◌*◌, ◌≤◌, ◌<◌, List, ◌≡◌, take, drop, get_or}
+use Rattle.std.proofs.Common.{ℕ, ◌+◌, ◌*◌, ◌≤◌, ◌<◌, List, ◌≡◌, take, drop, get_or}
 use Rattle.multisets.specs.Ends.{Filled}
 use Rattle.multisets.proofs.ends.push.Given as goal
 
 -- the next ends from one on, role by role
 abbrev pub row : ℕ → List ℕ → ℕ → List ℕ
-row d nexts end = take (8 * end + d - 8 * end) (drop (8 * end) nexts)
+row d nexts end = take d (drop (8 * end) nexts)
 
 -- the entries of place i for the roles below q are done, and its end, which is one, stays; what is left of its row and
 -- of the numbers begins with role q
