@@ -37,24 +37,23 @@ pub fn accept(base: &[u8]) -> Result<Base<'_>, Refusal>
 fn records_refusal(base: &Frame<'_>) -> Result<(), Refusal>
     ensures { number_of result ≡ records_refusal base.now }
 {
-    let roles = base.role_count();
-    let permissions = base.permission_count();
-    if records::hierarchy_bad(base.part(Table::Hierarchy), roles) {
+    let numbers = base.numbers();
+    if records::hierarchy_bad(base.part(Table::Hierarchy), numbers.roles) {
         return Err(Refusal::Hierarchy);
     }
-    if codes::users_bad(base.part(Table::Users), roles) {
+    if codes::users_bad(base.part(Table::Users), numbers.roles) {
         return Err(Refusal::Users);
     }
-    if clauses::clauses_bad(base.part(Table::Clauses), roles, permissions) {
+    if clauses::clauses_bad(base.part(Table::Clauses), numbers) {
         return Err(Refusal::Clauses);
     }
     if contexts::contexts_bad(base.part(Table::Contexts)) {
         return Err(Refusal::Contexts);
     }
-    if records::policies_bad(base.part(Table::Policies), roles, permissions) {
+    if records::policies_bad(base.part(Table::Policies), numbers) {
         return Err(Refusal::Policies);
     }
-    if records::exclusions_bad(base.part(Table::Exclusions), roles, permissions) {
+    if records::exclusions_bad(base.part(Table::Exclusions), numbers) {
         return Err(Refusal::Exclusions);
     }
     Ok(())

@@ -4,6 +4,7 @@ ghost use Rattle.reader.specs.Fields.{condition_attribute, condition_operator, c
 ghost use Rattle.reader.specs.Rules.{condition_bad, some_nonzero, clause_bad, clauses_bad};
 
 use crate::conditions::{Condition, rest_bad};
+use crate::trailer::Numbers;
 
 // Inner: a condition on a group.
 #[derive(Clone, Copy)]
@@ -52,17 +53,17 @@ impl Condition for GroupCondition {
     }
 }
 
-fn clause_bad(k: &[u8], i: usize, roles: u8, permissions: u8) -> bool
-    requires { (16 * i + 16 ≤ length k.now) × (roles ≤ 8) }
-    ensures { result ≡ clause_bad roles permissions k.now i }
+fn clause_bad(k: &[u8], i: usize, numbers: Numbers) -> bool
+    requires { (16 * i + 16 ≤ length k.now) × (numbers.roles ≤ 8) }
+    ensures { result ≡ clause_bad numbers.roles numbers.permissions k.now i }
 {
-    (permissions <= k[16 * i]) | rest_bad::<GroupCondition>(k, i, roles)
+    (numbers.permissions <= k[16 * i]) | rest_bad::<GroupCondition>(k, i, numbers.roles)
 }
 
 // Inner: refusal 6.
-pub(crate) fn clauses_bad(k: &[u8], roles: u8, permissions: u8) -> bool
-    requires { roles ≤ 8 }
-    ensures { result ≡ clauses_bad roles permissions k.now }
+pub(crate) fn clauses_bad(k: &[u8], numbers: Numbers) -> bool
+    requires { numbers.roles ≤ 8 }
+    ensures { result ≡ clauses_bad numbers.roles numbers.permissions k.now }
 {
-    (0..k.len() / 16).any(|i| clause_bad(k, i, roles, permissions))
+    (0..k.len() / 16).any(|i| clause_bad(k, i, numbers))
 }

@@ -161,6 +161,13 @@ impl<'a> Trailer<'a> {
     }
 }
 
+// Inner: how many roles and how many permissions a base has; what a record names has to be among them.
+#[derive(Clone, Copy)]
+pub struct Numbers {
+    pub roles: u8,
+    pub permissions: u8,
+}
+
 // A lent base that passed 1 to 3, so that its tables can be read; seen as its bytes.
 #[derive(Drop)]
 pub struct Frame<'a> {
@@ -234,5 +241,16 @@ impl<'a> Frame<'a> {
         ensures { result ≡ permission_count self.now }
     {
         (self.part(Table::Permissions).len() / 2) as u8
+    }
+
+    // Inner: R and the number of permissions.
+    pub fn numbers(&self) -> Numbers
+        ensures { (result.roles ≡ role_count self.now) × (result.roles ≤ 8)
+            × (result.permissions ≡ permission_count self.now) }
+    {
+        Numbers {
+            roles: self.role_count(),
+            permissions: self.permission_count(),
+        }
     }
 }

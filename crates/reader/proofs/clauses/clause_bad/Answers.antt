@@ -4,4 +4,4 @@ use Rattle.reader.proofs.clauses.clause_bad.Goals as goal
 
 pub returns : goal.returns
 unfolding clause_bad clause_slot_bad
-returns c = rw (c.rest_bad.ensures, not_ltb _ c.args.permissions)
+returns c = rw (c.rest_bad.ensures, not_ltb _ c.args.numbers.permissions)

@@ -20,9 +20,9 @@ pub returns : goal.returns
 returns c =
     let a = c.args in
     -- where the arms meet: the first number past those of the kind
-    let end_is : c.if-kind-eq0.end ≡ cond (eqb (exclusion_kind a.x.now a.i) 0) a.roles a.permissions =
+    let end_is : c.if-kind-eq0.end ≡ cond (eqb (exclusion_kind a.x.now a.i) 0) a.numbers.roles a.numbers.permissions =
     elim c.if-kind-eq0.branch [
       | then-kind-eq0 w ↦ w.end-is ∙ met _ (eq-eqb _ _ w.if-kind-eq0.true)
       | else-kind-eq0 w ↦ w.end-is ∙ sym (passed _ (ne_eqb _ _ w.if-kind-eq0.false))
     ] in
-    test a.roles a.permissions a.x.now a.i end_is
+    test a.numbers.roles a.numbers.permissions a.x.now a.i end_is

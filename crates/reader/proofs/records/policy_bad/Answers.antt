@@ -16,4 +16,4 @@ unfolding policy_bad
 test R P a i = simp (not_ltb, or_assoc)
 
 pub returns : goal.returns
-returns c = let a = c.args in test a.roles a.permissions a.a.now a.i
+returns c = let a = c.args in test a.numbers.roles a.numbers.permissions a.a.now a.i
