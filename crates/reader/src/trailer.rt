@@ -132,10 +132,7 @@ impl<'a> Trailer<'a> {
         // Each table's end is where the next has to start.
         for (t, room) in ROOMS.iter().enumerate() {
             let n = self.table_count(t);
-            if room.limit < n {
-                return true;
-            }
-            if self.table_offset(t) != at {
+            if room.limit < n || self.table_offset(t) != at {
                 return true;
             }
             at = at + n * room.width;
@@ -144,20 +141,12 @@ impl<'a> Trailer<'a> {
     }
 
     // Refusal 3.
+    #[tactic(auto, unfolding(crate::specs::Tables::trailer_bad, crate::specs::Tables::roles_bad))]
     fn is_bad(&self) -> bool
         ensures { result ≡ trailer_bad self.now }
     {
         let roles = self.role_count();
-        if roles < 1 {
-            return true;
-        }
-        if 8 < roles {
-            return true;
-        }
-        if self.reserved_bad() {
-            return true;
-        }
-        self.tables_bad()
+        roles < 1 || 8 < roles || self.reserved_bad() || self.tables_bad()
     }
 }
 

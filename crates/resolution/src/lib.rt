@@ -59,10 +59,9 @@ fn is_repeated(list: &[u8], k: usize) -> bool
 fn list_refused(list: &[u8]) -> bool
     ensures { result ≡ list_refused list.now }
 {
-    if list.is_empty() || 3 < list.len() {
-        return true;
-    }
-    (0..list.len()).any(|k| is_repeated(list, k) || Rule::try_from(list[k]).is_err())
+    list.is_empty()
+        || 3 < list.len()
+        || (0..list.len()).any(|k| is_repeated(list, k) || Rule::try_from(list[k]).is_err())
 }
 
 // Inner: refusals 1 to 9 of the base and 22 of the list, or the base as one that is accepted.

@@ -11,6 +11,8 @@ use Rattle.reader.specs.declared.trailer.TheConstants.{ROOMS}
 use Rattle.reader.proofs.Frame.{records_size}
 use Rattle.reader.proofs.trailer.Trailer.tables_bad.Invariants.{Turn}
 use Rattle.reader.proofs.trailer.Trailer.tables_bad.Goals as goal
+use Rattle.reader.proofs.trailer.Trailer.tables_bad.Goals.{then-room-n-via-then-room-n}
+use Rattle.reader.proofs.trailer.Trailer.tables_bad.Goals.{then-room-n-via-else-room-n+then-table_offset-at}
 
 -- a room of the table of rooms
 width_is : (t : ℕ) → t < 7 → (slice_index_or ROOMS t (record { width = 0; limit = 0 })).width ≡ width t
@@ -69,14 +71,15 @@ loop-t-init c = first _
 
 pub returns-then-room-n : goal.returns-then-room-n
 returns-then-room-n c =
-    over c.loop-t.invariant c.loop-t-test.true c.table_count-n.ensures.0
-    (limit_is _ c.loop-t-test.true) c.if-room-n.true
-
-pub returns-then-table_offset-at : goal.returns-then-table_offset-at
-returns-then-table_offset-at c =
-    apart c.loop-t.invariant c.loop-t-test.true c.table_count-n.ensures.0
-    (limit_is _ c.loop-t-test.true)
-    c.if-room-n.false c.table_offset.ensures.0 c.if-table_offset-at.true
+    let turn = c.loop-t.invariant in
+    let there = c.loop-t-test.true in
+    let n_is = c.table_count-n.ensures.0 in
+    let most_is = limit_is _ there in
+    elim c.then-room-n.branch [
+      | then-room-n-via-then-room-n w ↦ over turn there n_is most_is w.if-room-n.true
+      | then-room-n-via-else-room-n+then-table_offset-at w ↦
+          apart turn there n_is most_is w.if-room-n.false w.table_offset.ensures.0 w.if-table_offset-at.true
+    ]
 
 pub loop-t-preserved : goal.loop-t-preserved
 loop-t-preserved c =
