@@ -7,12 +7,19 @@ use crate::conditions::{Condition, rest_bad};
 use crate::trailer::Numbers;
 
 // Inner: a condition on a group.
-#[derive(Clone, Copy)]
+#[derive(Clone, Copy, PartialEq, Eq)]
 pub struct GroupCondition {
     pub attribute: u8,
     pub operator: u8,
     pub value: u8,
 }
+
+// What a slot that isn't used reads as.
+const BLANK: GroupCondition = GroupCondition {
+    attribute: 0,
+    operator: 0,
+    value: 0,
+};
 
 impl Condition for GroupCondition {
     const SLOTS: usize = 4;
@@ -47,9 +54,8 @@ impl Condition for GroupCondition {
         }
     }
 
-    // Byte by byte, as the rules have it: `!=` of a blank one would say the same of three bytes at once.
     fn is_nonzero(self) -> bool {
-        (self.attribute != 0) | (self.operator != 0) | (self.value != 0)
+        self != BLANK
     }
 }
 

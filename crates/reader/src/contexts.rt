@@ -7,12 +7,19 @@ use crate::conditions::{Condition, rest_bad};
 use crate::{RANGES, bytes};
 
 // Inner: a condition on a context.
-#[derive(Clone, Copy)]
+#[derive(Clone, Copy, PartialEq, Eq)]
 pub struct ContextCondition {
     pub parameter: u8,
     pub operator: u8,
     pub value: u16,
 }
+
+// What a slot that isn't used reads as.
+const BLANK: ContextCondition = ContextCondition {
+    parameter: 0,
+    operator: 0,
+    value: 0,
+};
 
 impl Condition for ContextCondition {
     const SLOTS: usize = 3;
@@ -46,9 +53,8 @@ impl Condition for ContextCondition {
         }
     }
 
-    // Field by field, as the rules have it.
     fn is_nonzero(self) -> bool {
-        (self.parameter != 0) | (self.operator != 0) | (self.value != 0)
+        self != BLANK
     }
 }
 
