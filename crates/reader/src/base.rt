@@ -59,6 +59,8 @@ fn records_refusal(base: &Frame<'_>) -> Result<(), Refusal>
     Ok(())
 }
 
+// Each handed on: by `Deref` a caller would be told all this of the frame lent, and its proof would have to bring each
+// read to the base.
 impl<'a> Base<'a> {
     // Inner: a table; the base it is of is an accepted one.
     pub fn part(&self, table: Table) -> &'a [u8]

@@ -2,7 +2,7 @@
 ghost use Rattle.std.specs.Prelude.{◌≡◌, ◌+◌, ◌≤◌, ◌<◌, length};
 ghost use Rattle.reader.specs.Bytes.{word16, word32};
 
-// Inner: a byte as an index.
+// Inner: a byte as an index. It says that the number is below 256, which `usize::from` doesn't: proofs lean on that.
 pub fn wide(x: u8) -> usize
     ensures { (result ≡ x) × (result < 256) }
 {

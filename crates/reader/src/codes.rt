@@ -10,7 +10,8 @@ use crate::{Refusal, Refused, bytes};
 // The identity codes of roles 0 to 7.
 const CODES: [u32; 8] = [3, 5, 7, 11, 13, 17, 19, 23];
 
-// Their inverses modulo 2^32: code times inverse is 1 there.
+// Their inverses modulo 2^32: code times inverse is 1 there. No pairs with the codes: `CODES`, by role, is the list of
+// the definition, `codes`.
 const INVERSES: [u32; 8] = [
     2863311531, 3435973837, 3067833783, 3123612579, 3303820997, 4042322161, 678152731, 3921491879,
 ];
@@ -41,7 +42,6 @@ struct Tried {
 
 // Tries the codes of the roles below `roles` on the parameter, in role order: one that divides the rest is divided out.
 // Ends as soon as the rest is 1: then the parameter is the product of different codes.
-// `return` at its ends: tried, with `break` the check of a parameter takes 1.2 times the instructions.
 fn try_codes(x: u32, roles: u8) -> Tried
     requires { roles ≤ 8 }
     ensures { (result.ok ≡ parameter_ok roles x) × (result.tried ≡ codes_tried roles x) }
