@@ -23,6 +23,13 @@ impl Model for Nexts {
     ghost inverse = { λ ends. record { ends = ends } };
 }
 
+// Inner: users by their next ends, and the roles below d that they are asked for.
+#[derive(Clone, Copy)]
+pub struct Users {
+    pub d: usize,
+    pub nexts: Nexts,
+}
+
 impl Nexts {
     // Those of a place, one for each role below d.
     fn behind(&self, end: usize, d: usize) -> &[u8]

@@ -65,10 +65,10 @@ fn part_for<const ROWS: usize, const PLACES: usize>(
     tables: &mut LevelTables<ROWS, PLACES>,
     masks: &mut Masks,
 ) -> [u8; 13]
-    requires { GroundsOf base.now s.now × UsersOf base.now tables.old.nexts × (tables.old.d ≡ role_count base.now)
+    requires { GroundsOf base.now s.now × UsersOf base.now tables.old.users.nexts × (tables.old.users.d ≡ role_count base.now)
         × (permission < permission_count base.now) }
     ensures { PartFor (decided base.now s.now.fixed) permission result
-        × (tables.new.d ≡ tables.old.d) × (tables.new.nexts ≡ tables.old.nexts) }
+        × (tables.new.users ≡ tables.old.users) }
 {
     let w = s.chosen.role_weights(s.fixed.juniors, permission);
     let k = base.part(Table::Clauses);

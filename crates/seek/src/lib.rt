@@ -101,12 +101,12 @@ fn try_level<const ROWS: usize, const PLACES: usize>(
     weighing: Weighing,
 ) -> Option<usize>
     requires { (n ≤ 6) × (weighing.placed + n * 40 ≤ 255)
-        × Ready tables.old.d weighing.end weighing.w tables.old.nexts masks.now.sums masks.now.sets
-        × Summed tables.old.d weighing tables.old.sums (first tables.old.d n) }
-    ensures { (tables.new.d ≡ tables.old.d) × (tables.new.nexts ≡ tables.old.nexts)
-        × Summed tables.old.d weighing tables.new.sums (first tables.old.d (suc n))
-        × ((sets : List ℕ) → NextEnds sets tables.old.nexts →
-        TriedWith sets weighing.w weighing.placed tables.old.d (met_by row masks.now.sums masks.now.sets) n result
+        × Ready tables.old.users.d weighing.end weighing.w tables.old.users.nexts masks.now.sums masks.now.sets
+        × Summed tables.old.users.d weighing tables.old.sums (first tables.old.users.d n) }
+    ensures { (tables.new.users ≡ tables.old.users)
+        × Summed tables.old.users.d weighing tables.new.sums (first tables.old.users.d (suc n))
+        × ((sets : List ℕ) → NextEnds sets tables.old.users.nexts →
+        TriedWith sets weighing.w weighing.placed tables.old.users.d (met_by row masks.now.sums masks.now.sets) n result
         tables.new.ends tables.new.from) }
 {
     tables.sum_level(n, weighing);
@@ -114,7 +114,7 @@ fn try_level<const ROWS: usize, const PLACES: usize>(
         return None;
     }
     tables.reach(n);
-    let first = first_in(tables.d, n);
+    let first = first_in(tables.users.d, n);
     let last = first + start_in(n, weighing.end);
     let level = Level {
         ends: &tables.ends,
@@ -143,9 +143,9 @@ pub fn search<const ROWS: usize, const PLACES: usize>(
     weighing: Weighing,
 ) -> Option<Found>
     requires { (last ≤ 6) × (weighing.placed + last * 40 ≤ 255)
-        × Ready tables.old.d weighing.end weighing.w tables.old.nexts masks.now.sums masks.now.sets }
-    ensures { (tables.new.d ≡ tables.old.d) × (tables.new.nexts ≡ tables.old.nexts)
-        × ((sets : List ℕ) → NextEnds sets tables.old.nexts →
+        × Ready tables.old.users.d weighing.end weighing.w tables.old.users.nexts masks.now.sums masks.now.sets }
+    ensures { (tables.new.users ≡ tables.old.users)
+        × ((sets : List ℕ) → NextEnds sets tables.old.users.nexts →
         AnsweredWith sets weighing.w weighing.placed (by_masks rows.now masks.now.sums masks.now.sets) last result) }
 {
     // No `find_map`: each turn changes the tables.
