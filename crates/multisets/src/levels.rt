@@ -5,7 +5,8 @@ ghost use Rattle.multisets.specs.Levels.{Summed};
 ghost use Rattle.multisets.specs.Laid.{Laid, Laid-prop};
 
 use crate::ends::{Nexts, Users};
-use crate::{Weighing, growth, values};
+use crate::growth::Reached;
+use crate::{Weighing, values};
 
 // Inner: what is known of the multisets of at most six roles below d, for users by their next ends, up to the level of
 // `known` roles; the sums are those of the search under way. With room for ROWS numbers of rows, and for PLACES
@@ -14,12 +15,10 @@ use crate::{Weighing, growth, values};
 pub struct LevelTables<const ROWS: usize, const PLACES: usize> {
     pub users: Users,
     pub known: usize,
-    pub rows: [u16; ROWS],
-    pub ends: [u8; PLACES],
-    pub from: [u16; PLACES],
+    pub reached: Reached<ROWS, PLACES>,
     pub roles: [u8; PLACES],
     pub sums: [u8; PLACES],
-    pub ghost laid: { Laid users.d known users.nexts rows ends from roles sums } by { Laid-prop },
+    pub ghost laid: { Laid users.d known users.nexts reached.rows reached.ends reached.from roles sums } by { Laid-prop },
 }
 
 impl<const ROWS: usize, const PLACES: usize> LevelTables<ROWS, PLACES> {
@@ -35,9 +34,11 @@ impl<const ROWS: usize, const PLACES: usize> LevelTables<ROWS, PLACES> {
         LevelTables {
             users: Users { d, nexts },
             known: 0,
-            rows: [0; ROWS],
-            ends,
-            from: [0; PLACES],
+            reached: Reached {
+                rows: [0; ROWS],
+                ends,
+                from: [0; PLACES],
+            },
             roles: [0; PLACES],
             sums: [0; PLACES],
         }
@@ -49,14 +50,7 @@ impl<const ROWS: usize, const PLACES: usize> LevelTables<ROWS, PLACES> {
         ensures { (self.new.known ≡ suc self.old.known) × (self.new.users ≡ self.old.users)
             × (self.new.sums ≡ self.old.sums) }
     {
-        growth::grow(
-            self.users.d,
-            &self.users.nexts,
-            self.known,
-            &mut self.rows,
-            &mut self.ends,
-            &mut self.from,
-        );
+        self.reached.grow(&self.users, self.known);
         values::join_level(self.users.d, self.known, &mut self.roles);
         self.known += 1;
     }

@@ -107,7 +107,7 @@ fn try_level<const ROWS: usize, const PLACES: usize>(
         × Summed tables.old.users.d weighing tables.new.sums (first tables.old.users.d (suc n))
         × ((sets : List ℕ) → NextEnds sets tables.old.users.nexts →
         TriedWith sets weighing.w weighing.placed tables.old.users.d (met_by row masks.now.sums masks.now.sets) n result
-        tables.new.ends tables.new.from) }
+        tables.new.reached.ends tables.new.reached.from) }
 {
     tables.sum_level(n, weighing);
     if row == 0 {
@@ -117,7 +117,7 @@ fn try_level<const ROWS: usize, const PLACES: usize>(
     let first = first_in(tables.users.d, n);
     let last = first + start_in(n, weighing.end);
     let level = Level {
-        ends: &tables.ends,
+        ends: &tables.reached.ends,
         sums: &tables.sums,
         roles: &tables.roles,
         masks,
@@ -151,7 +151,7 @@ pub fn search<const ROWS: usize, const PLACES: usize>(
     // No `find_map`: each turn changes the tables.
     for (n, row) in rows[..=last].iter().enumerate() {
         if let Some(at) = try_level(tables, masks, *row, n, weighing) {
-            let group = back::group(&tables.ends, &tables.from, n, at);
+            let group = back::group(&tables.reached.ends, &tables.reached.from, n, at);
             return Some(Found { n, group });
         }
     }
