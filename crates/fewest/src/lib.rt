@@ -34,10 +34,10 @@ pub fn fewest<const ROWS: usize, const PLACES: usize>(
     tables: &mut LevelTables<ROWS, PLACES>,
     masks: &mut Masks,
 ) -> Option<Found>
-    requires { Seeking k.now w start tables.old.d counts.now
-        × ((users : List ℕ) × NextEnds users tables.old.nexts) }
-    ensures { (tables.new.d ≡ tables.old.d) × (tables.new.nexts ≡ tables.old.nexts)
-        × ((sets : List ℕ) → NextEnds sets tables.old.nexts →
+    requires { Seeking k.now w start tables.old.users.d counts.now
+        × ((users : List ℕ) × NextEnds users tables.old.users.nexts) }
+    ensures { (tables.new.users ≡ tables.old.users)
+        × ((sets : List ℕ) → NextEnds sets tables.old.users.nexts →
         AnsweredWith sets w start.sum (holds_with k.now permission start) (6 - start.count) result) }
 {
     let weighed = weighing::weighed(w);

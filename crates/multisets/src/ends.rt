@@ -1,8 +1,7 @@
 // The least ends of groups, by the multiset of their roles. Where there is none an end is 255, the largest number of a
 // byte: of two ends the smaller is kept, whether or not there is one.
 ghost use Rattle.std.specs.Prelude.{◌≡◌, ℕ, ◌+◌, ◌*◌, ◌≤◌, ◌<◌, List, length, get_or, take, drop};
-ghost use Rattle.multisets.specs.Ends.{NextEnd, NextEnds, NextTable, Filled, Relaxed};
-ghost use Rattle.multisets.specs.Levels.{Pushing};
+ghost use Rattle.multisets.specs.Ends.{NextEnd, NextEnds, NextTable};
 
 use std::marker::Model;
 
@@ -23,9 +22,16 @@ impl Model for Nexts {
     ghost inverse = { λ ends. record { ends = ends } };
 }
 
+// Inner: whom the tables are for: users by their next ends, and d, how many roles there are.
+#[derive(Clone, Copy)]
+pub struct Users {
+    pub d: usize,
+    pub nexts: Nexts,
+}
+
 impl Nexts {
     // Those of a place, one for each role below d.
-    fn behind(&self, end: usize, d: usize) -> &[u8]
+    pub(crate) fn behind(&self, end: usize, d: usize) -> &[u8]
         requires { (end ≤ 24) × (d ≤ 8) }
         ensures row { result.now ≡ take d (drop (8 * end) self.now) }
         ensures table { NextTable self.now }
@@ -58,44 +64,4 @@ pub fn next_ends(sets: &[u8; 24], users: usize) -> Nexts
         ends[at] = end_from(sets, ends[at + 8], at / 8, (at % 8) as u8);
     }
     Nexts { ends }
-}
-
-// Keeps the smaller end at a place, and by which entry k it came.
-fn relax(ends: &mut [u8], from: &mut [u16], at: usize, end: u8, k: u16)
-    requires { (at < length ends.old) × (at < length from.old) }
-    ensures { Relaxed ends.old from.old at end k ends.new from.new }
-{
-    if end < ends[at] {
-        ends[at] = end;
-        from[at] = k;
-    }
-}
-
-// Inner: what the multiset at place i leads to with each role more; `next` is its rank's place in the next level.
-pub fn push(
-    d: usize,
-    nexts: &Nexts,
-    up: &[u16],
-    i: usize,
-    next: usize,
-    ends: &mut [u8],
-    from: &mut [u16],
-)
-    requires { Pushing d nexts.now up.now i next ends.old from.old }
-    ensures { Filled d nexts.now (8 * i + 8) ends.new from.new }
-{
-    let end = ends[i];
-    if end == 255 {
-        return;
-    }
-    let row = nexts.behind(end as usize, d);
-    for (q, (later, ahead)) in row.iter().zip(up).enumerate() {
-        relax(
-            ends,
-            from,
-            next + (*ahead as usize),
-            *later,
-            (8 * i + q) as u16,
-        );
-    }
 }

@@ -1,12 +1,11 @@
-// One role more: from the multisets of n roles to those of n + 1. The tables' arrays are lent one by one: within a
-// level what the tables hold as one value isn't so; a struct of the three was tried, proved, and a typical shop's
-// report took 1.14 times the instructions.
+// One role more: from the multisets of n roles to those of n + 1.
 ghost use Rattle.std.specs.Prelude.{◌≡◌, ℕ, suc, ◌+◌, ◌*◌, ◌≤◌, ◌<◌, length, get_or};
 ghost use Rattle.multisets.specs.Ranks.{starts, first};
 ghost use Rattle.multisets.specs.Values.{Written};
-ghost use Rattle.multisets.specs.Levels.{Fixed, Kept, Grown};
+ghost use Rattle.multisets.specs.Ends.{Filled, Relaxed};
+ghost use Rattle.multisets.specs.Levels.{Fixed, Kept, Grown, Pushing};
 
-use crate::ends::{self, Nexts};
+use crate::ends::Users;
 use crate::ranks::{first_in, start_in};
 use std::array;
 
@@ -49,63 +48,105 @@ fn keep_row(t: &mut [u16], n: usize, at: usize, up: &[u16; 8])
     }
 }
 
-// Multisets of n + 1 roles whose largest is r: their rows, and what they lead to.
-fn grow_block(
-    d: usize,
-    nexts: &Nexts,
-    n: usize,
-    r: usize,
-    t: &mut [u16],
-    ends: &mut [u8],
-    from: &mut [u16],
-)
-    requires { (n ≤ 4) × (d ≤ 8) × (r < d)
-        × Grown d nexts.now (first d (suc n) + starts (suc n) r) t.old ends.old from.old }
-    ensures { Grown d nexts.now (first d (suc n) + starts (suc n) (suc r))
-        t.new ends.new from.new }
+// Keeps the smaller end at a place, and by which entry k it came.
+fn relax(ends: &mut [u8], from: &mut [u16], at: usize, end: u8, k: u16)
+    requires { (at < length ends.old) × (at < length from.old) }
+    ensures { Relaxed ends.old from.old at end k ends.new from.new }
 {
-    let less = first_in(d, n);
-    let here = first_in(d, n + 1) + start_in(n + 1, r);
-    let next = first_in(d, n + 2) + start_in(n + 1, r);
-    let fixed = fixed_steps(n, r);
-    let kept = kept_steps(r);
-    // A multiset is a number here, and its row goes into the tables that the next ones read.
-    for j in 0..start_in(n, r + 1) {
-        let up = ups_of(t, 8 * (less + j), &fixed, &kept);
-        keep_row(t, n + 1, 8 * (here + j), &up);
-        ends::push(d, nexts, &up, here + j, next + j, ends, from);
+    if end < ends[at] {
+        ends[at] = end;
+        from[at] = k;
     }
 }
 
-// From the multisets of n + 1 roles.
-fn grow_level(d: usize, nexts: &Nexts, n: usize, t: &mut [u16], ends: &mut [u8], from: &mut [u16])
-    requires { (n ≤ 4) × (d ≤ 8) × Grown d nexts.now (first d (suc n)) t.old ends.old from.old }
-    ensures { Grown d nexts.now (first d (suc (suc n))) t.new ends.new from.new }
-{
-    // A role is a number here, and each block changes the tables.
-    for r in 0..d {
-        grow_block(d, nexts, n, r, t, ends, from);
-    }
+// Inner: the multisets made so far, at their places: their rows, their least ends, and by which entry each end came.
+// Their own struct: within a level what the tables hold as one value isn't so.
+#[derive(Drop)]
+pub struct Reached<const ROWS: usize, const PLACES: usize> {
+    pub rows: [u16; ROWS],
+    pub ends: [u8; PLACES],
+    pub from: [u16; PLACES],
 }
 
-// From the empty multiset.
-fn grow_none(d: usize, nexts: &Nexts, t: &mut [u16], ends: &mut [u8], from: &mut [u16])
-    requires { (d ≤ 8) × Grown d nexts.now (first d 0) t.old ends.old from.old }
-    ensures { Grown d nexts.now (first d 1) t.new ends.new from.new }
-{
-    let up = [0u16, 1, 2, 3, 4, 5, 6, 7];
-    keep_row(t, 0, 0, &up);
-    ends::push(d, nexts, &up, 0, 1, ends, from);
-}
-
-// Inner: the least ends of the multisets of n + 1 roles, from those of n.
-pub fn grow(d: usize, nexts: &Nexts, n: usize, t: &mut [u16], ends: &mut [u8], from: &mut [u16])
-    requires { (n ≤ 5) × (d ≤ 8) × Grown d nexts.now (first d n) t.old ends.old from.old }
-    ensures { Grown d nexts.now (first d (suc n)) t.new ends.new from.new }
-{
-    if n == 0 {
-        grow_none(d, nexts, t, ends, from);
-        return;
+impl<const ROWS: usize, const PLACES: usize> Reached<ROWS, PLACES> {
+    // What the multiset at place i leads to with each role more; `next` is its rank's place in the next level.
+    fn push(&mut self, users: &Users, up: &[u16], i: usize, next: usize)
+        requires { Pushing users.now.d users.now.nexts up.now i next self.old.ends self.old.from }
+        ensures { Filled users.now.d users.now.nexts (8 * i + 8) self.new.ends self.new.from
+            × (self.new.rows ≡ self.old.rows) }
+    {
+        let end = self.ends[i];
+        if end == 255 {
+            return;
+        }
+        let row = users.nexts.behind(end as usize, users.d);
+        for (q, (later, ahead)) in row.iter().zip(up).enumerate() {
+            relax(
+                &mut self.ends,
+                &mut self.from,
+                next + (*ahead as usize),
+                *later,
+                (8 * i + q) as u16,
+            );
+        }
     }
-    grow_level(d, nexts, n - 1, t, ends, from);
+
+    // Multisets of n + 1 roles whose largest is r: their rows, and what they lead to.
+    fn block(&mut self, users: &Users, n: usize, r: usize)
+        requires { (n ≤ 4) × (users.now.d ≤ 8) × (r < users.now.d)
+            × Grown users.now.d users.now.nexts (first users.now.d (suc n) + starts (suc n) r)
+            self.old.rows self.old.ends self.old.from }
+        ensures { Grown users.now.d users.now.nexts (first users.now.d (suc n) + starts (suc n) (suc r))
+            self.new.rows self.new.ends self.new.from }
+    {
+        let less = first_in(users.d, n);
+        let here = first_in(users.d, n + 1) + start_in(n + 1, r);
+        let next = first_in(users.d, n + 2) + start_in(n + 1, r);
+        let fixed = fixed_steps(n, r);
+        let kept = kept_steps(r);
+        // A multiset is a number here, and its row goes into the tables that the next ones read.
+        for j in 0..start_in(n, r + 1) {
+            let up = ups_of(&self.rows, 8 * (less + j), &fixed, &kept);
+            keep_row(&mut self.rows, n + 1, 8 * (here + j), &up);
+            self.push(users, &up, here + j, next + j);
+        }
+    }
+
+    // From the multisets of n + 1 roles.
+    fn level(&mut self, users: &Users, n: usize)
+        requires { (n ≤ 4) × (users.now.d ≤ 8)
+            × Grown users.now.d users.now.nexts (first users.now.d (suc n)) self.old.rows self.old.ends self.old.from }
+        ensures { Grown users.now.d users.now.nexts (first users.now.d (suc (suc n)))
+            self.new.rows self.new.ends self.new.from }
+    {
+        // A role is a number here, and each block changes the tables.
+        for r in 0..users.d {
+            self.block(users, n, r);
+        }
+    }
+
+    // From the empty multiset.
+    fn none(&mut self, users: &Users)
+        requires { (users.now.d ≤ 8)
+            × Grown users.now.d users.now.nexts (first users.now.d 0) self.old.rows self.old.ends self.old.from }
+        ensures { Grown users.now.d users.now.nexts (first users.now.d 1) self.new.rows self.new.ends self.new.from }
+    {
+        let up = [0u16, 1, 2, 3, 4, 5, 6, 7];
+        keep_row(&mut self.rows, 0, 0, &up);
+        self.push(users, &up, 0, 1);
+    }
+
+    // Inner: the least ends of the multisets of n + 1 roles, from those of n.
+    pub fn grow(&mut self, users: &Users, n: usize)
+        requires { (n ≤ 5) × (users.now.d ≤ 8)
+            × Grown users.now.d users.now.nexts (first users.now.d n) self.old.rows self.old.ends self.old.from }
+        ensures { Grown users.now.d users.now.nexts (first users.now.d (suc n))
+            self.new.rows self.new.ends self.new.from }
+    {
+        if n == 0 {
+            self.none(users);
+            return;
+        }
+        self.level(users, n - 1);
+    }
 }

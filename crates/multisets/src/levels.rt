@@ -4,42 +4,41 @@ ghost use Rattle.multisets.specs.Ranks.{first};
 ghost use Rattle.multisets.specs.Levels.{Summed};
 ghost use Rattle.multisets.specs.Laid.{Laid, Laid-prop};
 
-use crate::ends::Nexts;
-use crate::{Weighing, growth, values};
+use crate::ends::{Nexts, Users};
+use crate::growth::Reached;
+use crate::{Weighing, values};
 
 // Inner: what is known of the multisets of at most six roles below d, for users by their next ends, up to the level of
 // `known` roles; the sums are those of the search under way. With room for ROWS numbers of rows, and for PLACES
 // multisets.
 #[derive(Drop)]
 pub struct LevelTables<const ROWS: usize, const PLACES: usize> {
-    pub d: usize,
+    pub users: Users,
     pub known: usize,
-    pub nexts: Nexts,
-    pub rows: [u16; ROWS],
-    pub ends: [u8; PLACES],
-    pub from: [u16; PLACES],
+    pub reached: Reached<ROWS, PLACES>,
     pub roles: [u8; PLACES],
     pub sums: [u8; PLACES],
-    pub ghost laid: { Laid d known nexts rows ends from roles sums } by { Laid-prop },
+    pub ghost laid: { Laid users.d known users.nexts reached.rows reached.ends reached.from roles sums } by { Laid-prop },
 }
 
 impl<const ROWS: usize, const PLACES: usize> LevelTables<ROWS, PLACES> {
     // Inner: tables that know the level of no role.
     pub fn new(d: usize, nexts: Nexts) -> Self
         requires { (d ≤ 8) × (8 * first d 5 ≤ ROWS) × (first d 7 ≤ PLACES) }
-        ensures { (result.d ≡ d) × (result.nexts ≡ nexts) }
+        ensures { (result.users.d ≡ d) × (result.users.nexts ≡ nexts) }
     {
         // Read for what is known of them.
         let _ = &nexts.ends;
         let mut ends = [255u8; PLACES];
         ends[0] = 0;
         LevelTables {
-            d,
+            users: Users { d, nexts },
             known: 0,
-            nexts,
-            rows: [0; ROWS],
-            ends,
-            from: [0; PLACES],
+            reached: Reached {
+                rows: [0; ROWS],
+                ends,
+                from: [0; PLACES],
+            },
             roles: [0; PLACES],
             sums: [0; PLACES],
         }
@@ -48,26 +47,19 @@ impl<const ROWS: usize, const PLACES: usize> LevelTables<ROWS, PLACES> {
     // The level of a role more.
     fn extend(&mut self)
         requires { self.old.known ≤ 5 }
-        ensures { (self.new.known ≡ suc self.old.known) × (self.new.d ≡ self.old.d)
-            × (self.new.nexts ≡ self.old.nexts) × (self.new.sums ≡ self.old.sums) }
+        ensures { (self.new.known ≡ suc self.old.known) × (self.new.users ≡ self.old.users)
+            × (self.new.sums ≡ self.old.sums) }
     {
-        growth::grow(
-            self.d,
-            &self.nexts,
-            self.known,
-            &mut self.rows,
-            &mut self.ends,
-            &mut self.from,
-        );
-        values::join_level(self.d, self.known, &mut self.roles);
+        self.reached.grow(&self.users, self.known);
+        values::join_level(self.users.d, self.known, &mut self.roles);
         self.known += 1;
     }
 
     // Inner: the levels up to n, of which those that are known stay.
     pub fn reach(&mut self, n: usize)
         requires { n ≤ 6 }
-        ensures { (n ≤ self.new.known) × (self.new.d ≡ self.old.d)
-            × (self.new.nexts ≡ self.old.nexts) × (self.new.sums ≡ self.old.sums) }
+        ensures { (n ≤ self.new.known) × (self.new.users ≡ self.old.users)
+            × (self.new.sums ≡ self.old.sums) }
     {
         // Each level changes the tables.
         for _ in self.known..n {
@@ -78,11 +70,11 @@ impl<const ROWS: usize, const PLACES: usize> LevelTables<ROWS, PLACES> {
     // Inner: the sums of the multisets of n roles below the end, with what is placed before, where those of fewer are
     // made.
     pub fn sum_level(&mut self, n: usize, weighing: Weighing)
-        requires { (n ≤ 6) × (weighing.end ≤ self.old.d) × (weighing.placed + n * 40 ≤ 255)
-            × Summed self.old.d weighing self.old.sums (first self.old.d n) }
-        ensures { Summed self.old.d weighing self.new.sums (first self.old.d (suc n))
-            × (self.new.d ≡ self.old.d) × (self.new.nexts ≡ self.old.nexts) }
+        requires { (n ≤ 6) × (weighing.end ≤ self.old.users.d) × (weighing.placed + n * 40 ≤ 255)
+            × Summed self.old.users.d weighing self.old.sums (first self.old.users.d n) }
+        ensures { Summed self.old.users.d weighing self.new.sums (first self.old.users.d (suc n))
+            × (self.new.users ≡ self.old.users) }
     {
-        values::sum_level(self.d, n, weighing, &mut self.sums);
+        values::sum_level(self.users.d, n, weighing, &mut self.sums);
     }
 }

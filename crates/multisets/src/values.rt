@@ -7,16 +7,19 @@ ghost use Rattle.multisets.specs.Levels.{Summed};
 use crate::Weighing;
 use crate::ranks::{first_in, start_in};
 
-// Writes from `to` on what `step` makes of the `count` numbers from `from` on. Both stand in one table, and of what
-// `iter_mut().zip(..)` writes into a part of it no proof would know.
+// Writes from `to` on what `step` makes of the `count` numbers from `from` on. Of what `iter_mut().zip(..)` writes into
+// a part no proof would know.
 fn write_block<F: Fn(u8) -> u8>(t: &mut [u8], from: usize, to: usize, count: usize, step: F)
     requires { (from + count ≤ to) × (to + count ≤ length t.old) × (to + count ≤ 65535)
         × ((j : ℕ) → j < count → F.pre step (get_or t.old (from + j) 0)) }
     ensures { (g : ℕ → ℕ) → ((j y : ℕ) → j < count → F.post step (get_or t.old (from + j) 0) y → y ≡ g j) →
         Written g to count t.old t.new }
 {
-    for j in 0..count {
-        t[to + j] = step(t[from + j]);
+    let (before, rest) = t.split_at_mut(to);
+    let values = &before[from..from + count];
+    let block = &mut rest[..count];
+    for (j, value) in block.iter_mut().enumerate() {
+        *value = step(values[j]);
     }
 }
 

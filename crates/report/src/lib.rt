@@ -9,8 +9,7 @@ ghost use Rattle.report.specs.Parts.{Settled, decided, FilledBy};
 ghost use Rattle.report.specs.Demand.{Demanded, DemandedLent};
 
 use reader::{Base, Refusal, Refused, bytes};
-use weights::acting::Acting;
-use weights::{Context, Fixed};
+use weights::Context;
 
 mod parts;
 
@@ -24,7 +23,7 @@ pub fn report(base: &[u8], at: Context, out: &mut [u8]) -> Result<u32, Refused>
     let base = reader::accept(base)?;
     fitting_refusal(&base, at, out.len())?;
     let s = weights::setting(&base, at);
-    Ok(fill(&base, s, out))
+    Ok(parts::fill(&base, s, out))
 }
 
 // Entry point: the same by a resolution list, of the decision that `decide_by` gives with that list; 22 comes after 9.
@@ -35,7 +34,7 @@ pub fn report_by(base: &[u8], at: Context, list: &[u8], out: &mut [u8]) -> Resul
     let base = resolution::accept(base, list)?;
     fitting_refusal(&base, at, out.len())?;
     let s = weights::setting_by(&base, at, list);
-    Ok(fill(&base, s, out))
+    Ok(parts::fill(&base, s, out))
 }
 
 // Refusals 11 and 19 for an accepted base and a buffer of n bytes.
@@ -49,13 +48,4 @@ fn fitting_refusal(base: &Base<'_>, at: Context, n: usize) -> Result<(), Refusal
         return Err(Refusal::ReportRoom);
     }
     Ok(())
-}
-
-// Writes each permission's part, by a setting of an accepted base; the number of permissions that have a group.
-fn fill(base: &Base<'_>, s: Fixed, out: &mut [u8]) -> u32
-    requires { Settled base.now s × (13 * permission_count base.now ≤ length out.old) }
-    ensures { FilledBy (decided base.now s) (permission_count base.now) out.old out.new result }
-{
-    let sets = parts::acting_sets(&Acting::by(base, s.juniors));
-    parts::fill(base, s, &sets, out)
 }

@@ -12,10 +12,12 @@ use seek::{Found, Masks};
 use weights::acting::Acting;
 use weights::{Chosen, Fixed};
 
-// Inner: for each user the set of the roles that the user may act in.
-pub fn acting_sets(acting: &Acting<'_>) -> [u8; 24]
-    ensures { ActingSets acting.now result }
+// For each user the set of the roles that the user may act in.
+fn acting_sets(base: &Base<'_>, fixed: Fixed) -> [u8; 24]
+    requires { Settled base.now fixed }
+    ensures { ActingSets base.now result }
 {
+    let acting = Acting::by(base, fixed.juniors);
     std::array::from_fn(|u| acting.roles(u))
 }
 
@@ -65,10 +67,10 @@ fn part_for<const ROWS: usize, const PLACES: usize>(
     tables: &mut LevelTables<ROWS, PLACES>,
     masks: &mut Masks,
 ) -> [u8; 13]
-    requires { GroundsOf base.now s.now × UsersOf base.now tables.old.nexts × (tables.old.d ≡ role_count base.now)
+    requires { GroundsOf base.now s.now × UsersOf base.now tables.old.users.nexts × (tables.old.users.d ≡ role_count base.now)
         × (permission < permission_count base.now) }
     ensures { PartFor (decided base.now s.now.fixed) permission result
-        × (tables.new.d ≡ tables.old.d) × (tables.new.nexts ≡ tables.old.nexts) }
+        × (tables.new.users ≡ tables.old.users) }
 {
     let w = s.chosen.role_weights(s.fixed.juniors, permission);
     let k = base.part(Table::Clauses);
@@ -114,13 +116,12 @@ fn fill_in<const ROWS: usize, const PLACES: usize>(
 
 // Inner: writes each permission's part; the number of permissions that have a group. Fewer roles take smaller tables:
 // the rows of multisets of at most four of them, and the multisets of at most six.
-pub fn fill(base: &Base<'_>, fixed: Fixed, sets: &[u8; 24], out: &mut [u8]) -> u32
-    requires { Settled base.now fixed × ActingSets base.now sets.now
-        × (13 * permission_count base.now ≤ length out.old) }
+pub fn fill(base: &Base<'_>, fixed: Fixed, out: &mut [u8]) -> u32
+    requires { Settled base.now fixed × (13 * permission_count base.now ≤ length out.old) }
     ensures { FilledBy (decided base.now fixed) (permission_count base.now) out.old out.new result }
 {
     let s = grounds_of(base, fixed);
-    let nexts = ends::next_ends(sets, base.user_count());
+    let nexts = ends::next_ends(&acting_sets(base, fixed), base.user_count());
     match base.role_count() {
         0..=3 => fill_in::<280, 84>(base, &s, nexts, out),
         4 | 5 => fill_in::<1008, 462>(base, &s, nexts, out),

@@ -80,14 +80,14 @@ impl Level<'_> {
         requires { Roomy end self.now × (from ≤ end) × (end ≤ 3003) }
         ensures { FoundAt (meets self.now) from end result }
     {
-        let eights = (end - from) / 8;
+        let rest = end - (end - from) % 8;
         // No `find_map`: of the rest, called by `or_else` behind it, a proof knows nothing.
-        for i in 0..eights {
-            if let Some(found) = self.meeting_in_eight(from + 8 * i) {
+        for x in (from..rest).step_by(8) {
+            if let Some(found) = self.meeting_in_eight(x) {
                 return Some(found);
             }
         }
-        self.meeting_in(from + 8 * eights, end)
+        self.meeting_in(rest, end)
     }
 }
 
@@ -101,23 +101,23 @@ fn try_level<const ROWS: usize, const PLACES: usize>(
     weighing: Weighing,
 ) -> Option<usize>
     requires { (n ≤ 6) × (weighing.placed + n * 40 ≤ 255)
-        × Ready tables.old.d weighing.end weighing.w tables.old.nexts masks.now.sums masks.now.sets
-        × Summed tables.old.d weighing tables.old.sums (first tables.old.d n) }
-    ensures { (tables.new.d ≡ tables.old.d) × (tables.new.nexts ≡ tables.old.nexts)
-        × Summed tables.old.d weighing tables.new.sums (first tables.old.d (suc n))
-        × ((sets : List ℕ) → NextEnds sets tables.old.nexts →
-        TriedWith sets weighing.w weighing.placed tables.old.d (met_by row masks.now.sums masks.now.sets) n result
-        tables.new.ends tables.new.from) }
+        × Ready tables.old.users.d weighing.end weighing.w tables.old.users.nexts masks.now.sums masks.now.sets
+        × Summed tables.old.users.d weighing tables.old.sums (first tables.old.users.d n) }
+    ensures { (tables.new.users ≡ tables.old.users)
+        × Summed tables.old.users.d weighing tables.new.sums (first tables.old.users.d (suc n))
+        × ((sets : List ℕ) → NextEnds sets tables.old.users.nexts →
+        TriedWith sets weighing.w weighing.placed tables.old.users.d (met_by row masks.now.sums masks.now.sets) n result
+        tables.new.reached.ends tables.new.reached.from) }
 {
     tables.sum_level(n, weighing);
     if row == 0 {
         return None;
     }
     tables.reach(n);
-    let first = first_in(tables.d, n);
+    let first = first_in(tables.users.d, n);
     let last = first + start_in(n, weighing.end);
     let level = Level {
-        ends: &tables.ends,
+        ends: &tables.reached.ends,
         sums: &tables.sums,
         roles: &tables.roles,
         masks,
@@ -143,15 +143,15 @@ pub fn search<const ROWS: usize, const PLACES: usize>(
     weighing: Weighing,
 ) -> Option<Found>
     requires { (last ≤ 6) × (weighing.placed + last * 40 ≤ 255)
-        × Ready tables.old.d weighing.end weighing.w tables.old.nexts masks.now.sums masks.now.sets }
-    ensures { (tables.new.d ≡ tables.old.d) × (tables.new.nexts ≡ tables.old.nexts)
-        × ((sets : List ℕ) → NextEnds sets tables.old.nexts →
+        × Ready tables.old.users.d weighing.end weighing.w tables.old.users.nexts masks.now.sums masks.now.sets }
+    ensures { (tables.new.users ≡ tables.old.users)
+        × ((sets : List ℕ) → NextEnds sets tables.old.users.nexts →
         AnsweredWith sets weighing.w weighing.placed (by_masks rows.now masks.now.sums masks.now.sets) last result) }
 {
     // No `find_map`: each turn changes the tables.
     for (n, row) in rows[..=last].iter().enumerate() {
         if let Some(at) = try_level(tables, masks, *row, n, weighing) {
-            let group = back::group(&tables.ends, &tables.from, n, at);
+            let group = back::group(&tables.reached.ends, &tables.reached.from, n, at);
             return Some(Found { n, group });
         }
     }

@@ -9,7 +9,6 @@ use Rattle.fewest.proofs.fewest.Goals.{then-own-eq0-via-else-own-eq0+then-weighe
 pub returns-then-own-eq0 : goal.returns-then-own-eq0
 returns-then-own-eq0 g c = (
   refl,
-  refl,
   λ sets next. record {
     answered = elim c.then-own-eq0.branch [
       | then-own-eq0-via-then-own-eq0 w ↦
@@ -30,7 +29,6 @@ returns-in_err-last g c =
     let told = telling c.requires.0 c.weighed-weighed.ensures c.masks_for-rows.ensures c.own_clauses-own.ensures.0 in
     rw c.from_residual.ensures (
       refl,
-      refl,
       λ sets next. record {
         answered = no_row told c.weighed-weighed.ensures c.requires.0.few c.in_err-last.ensures;
         some = tt;
@@ -40,9 +38,8 @@ returns-in_err-last g c =
 pub returns : goal.returns
 returns g c =
     let told = telling c.requires.0 c.weighed-weighed.ensures c.masks_for-rows.ensures c.own_clauses-own.ensures.0 in
-    let (roles, nexts, answered) = c.search.ensures in (
-      roles,
-      nexts,
+    let (users, answered) = c.search.ensures in (
+      users,
       λ sets next. record {
         answered = fewest_is told c.weighed-weighed.ensures c.requires.0.few c.in_ok-last.ensures
             (answered sets next).answered;

@@ -9,6 +9,7 @@ use Rattle.folds.proofs.Bools.{met_or_not}
 use Rattle.multisets.specs.Ranks.{first}
 use Rattle.multisets.specs.Rising.{Entry, bytes_of}
 use Rattle.multisets.specs.Standing.{bytes_back}
+use Rattle.multisets.specs.declared.ends.Users.{Users}
 use Rattle.multisets.specs.Ends.{NextEnds, WayIn, back_of}
 use Rattle.multisets.specs.Values.{Held}
 use Rattle.multisets.specs.Laid.{Laid}
@@ -22,21 +23,23 @@ no_sums : {d end : ℕ} {value : ℕ → ℕ → ℕ} {t : List ℕ} → first d
 no_sums {d} room = record { room = room; each = λ n m few some l. absurd (omega (arith, first_0 d)) }
 
 -- a level's try, of the tables and the rows as they were handed in
-tried_here : (rows by_sum by_set : List ℕ) {d d₁ n count placed : ℕ} {w nexts nexts₁ ends from : List ℕ}
-    {o : Option ℕ} → n < count → d₁ ≡ d → nexts₁ ≡ nexts →
-    ((sets : List ℕ) → NextEnds sets nexts₁ →
-    TriedWith sets w placed d₁ (by_masks (take count rows) by_sum by_set n) n o ends from) →
-    (sets : List ℕ) → NextEnds sets nexts → TriedWith sets w placed d (by_masks rows by_sum by_set n) n o ends from
-tried_here rows by_sum by_set {n = n} {count} low same_d same_nexts tried =
-    rw (same_d, same_nexts, get_or-take count rows n 0 low) at tried
+tried_here : (rows by_sum by_set : List ℕ) {users users₁ : Users} {n count placed : ℕ} {w ends from : List ℕ}
+    {o : Option ℕ} → n < count → users₁ ≡ users →
+    ((sets : List ℕ) → NextEnds sets users₁.nexts →
+    TriedWith sets w placed users₁.d (by_masks (take count rows) by_sum by_set n) n o ends from) →
+    (sets : List ℕ) → NextEnds sets users.nexts →
+    TriedWith sets w placed users.d (by_masks rows by_sum by_set n) n o ends from
+tried_here rows by_sum by_set {n = n} {count} low same tried = rw (same, get_or-take count rows n 0 low) at tried
 
 -- the way back from the place found
-back_way : (condition : ℕ → ℕ → Bool) {d d₁ end k n at placed : ℕ}
-    {w nexts nexts₁ by_sum by_set t ends from roles sums : List ℕ} →
-    ((sets : List ℕ) → NextEnds sets nexts → TriedWith sets w placed d condition n (Some at) ends from) →
-    d₁ ≡ d → Ready d end w nexts by_sum by_set → Laid d₁ k nexts₁ t ends from roles sums → WayIn ends from n at
-back_way condition {d} tried same_d ready laid₁ =
-    let laid = rw same_d at laid₁ in
+back_way : (condition : ℕ → ℕ → Bool) {users users₁ : Users} {end k n at placed : ℕ}
+    {w by_sum by_set t ends from roles sums : List ℕ} →
+    ((sets : List ℕ) → NextEnds sets users.nexts → TriedWith sets w placed users.d condition n (Some at) ends from) →
+    users₁ ≡ users → Ready users.d end w users.nexts by_sum by_set →
+    Laid users₁.d k users₁.nexts t ends from roles sums → WayIn ends from n at
+back_way condition {users} tried same ready laid₁ =
+    let d = users.d in
+    let laid = rw same at laid₁ in
     let one = tried ready.users ready.next_ends in
     record {
       room = first d 7;
@@ -82,8 +85,7 @@ answer condition {n = n} tried low most none is sets next =
 
 pub loop-n-init : goal.loop-n-init
 loop-n-init g c = record {
-  d = refl;
-  nexts = refl;
+  users = refl;
   added = no_sums c.args.tables.now.laid.room;
   none = λ sets next h l m. absurd (omega arith);
 }
@@ -92,24 +94,24 @@ pub loop-n-preserved : goal.loop-n-preserved
 loop-n-preserved g c =
     let i = c.loop-n.invariant in
     let m = c.args.masks.now in
-    let (d, nexts, added, tried) = c.in_default.ensures in
-    let one = tried_here c.args.rows.now m.sums m.sets (omega arith) i.d i.nexts tried in
+    let (users, added, tried) = c.in_default.ensures in
+    let one = tried_here c.args.rows.now m.sums m.sets (omega arith) i.users tried in
     search rules
 
 pub group-group-requires : goal.group-group-requires
 group-group-requires g c =
     let i = c.loop-n.invariant in
-    let (d, nexts, added, tried) = c.in-Some.ensures in
+    let (users, added, tried) = c.in-Some.ensures in
     let m = c.args.masks.now in
-    let one = tried_here c.args.rows.now m.sums m.sets (omega arith) i.d i.nexts tried in
-    (omega arith, back_way _ one (d ∙ i.d) c.requires.2 c.try_level.new.tables.laid)
+    let one = tried_here c.args.rows.now m.sums m.sets (omega arith) i.users tried in
+    (omega arith, back_way _ one (users ∙ i.users) c.requires.2 c.try_level.new.tables.laid)
 
 pub returns-in-Some : goal.returns-in-Some
 returns-in-Some g c =
     let i = c.loop-n.invariant in
     let m = c.args.masks.now in
-    let (d, nexts, added, tried) = c.in-Some.ensures in
-    let one = tried_here c.args.rows.now m.sums m.sets (omega arith) i.d i.nexts tried in
+    let (users, added, tried) = c.in-Some.ensures in
+    let one = tried_here c.args.rows.now m.sums m.sets (omega arith) i.users tried in
     let low : c.loop-n.n ≤ c.args.last = omega arith in
     let found = answer (by_masks c.args.rows.now m.sums m.sets) one low c.requires.0 i.none c.group-group.ensures in
-    (d ∙ i.d, nexts ∙ i.nexts, found)
+    (users ∙ i.users, found)

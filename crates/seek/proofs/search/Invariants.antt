@@ -9,9 +9,8 @@ use Rattle.seek.proofs.search.Given as goal
 
 abbrev pub invariant-loop-n : goal.invariant-loop-n
 invariant-loop-n g l = record {
-  d : l.tables.d ≡ l.initial.tables.d;
-  nexts : l.tables.nexts ≡ l.initial.tables.nexts;
-  added : Summed l.initial.tables.d l.weighing l.tables.sums (first l.initial.tables.d l.n);
-  none : (sets : List ℕ) → NextEnds sets l.initial.tables.nexts → (h : List Entry) → length h < l.n →
+  users : l.tables.users ≡ l.initial.tables.users;
+  added : Summed l.initial.tables.users.d l.weighing l.tables.sums (first l.initial.tables.users.d l.n);
+  none : (sets : List ℕ) → NextEnds sets l.initial.tables.users.nexts → (h : List Entry) → length h < l.n →
       Meets sets l.weighing.w l.weighing.placed (by_masks l.rows l.masks.sums l.masks.sets (length h)) h → ⊥;
 }

@@ -2,6 +2,7 @@
 use Rattle.std.proofs.Common.{ℕ, suc, ◌+◌, ◌*◌, ◌≤◌, List, Option, ◌≡◌, ◌∙◌, arith}
 use native.Mathlib.Nat.{le_refl}
 use Rattle.multisets.specs.Ranks.{starts, first}
+use Rattle.multisets.specs.declared.ends.Users.{Users}
 use Rattle.multisets.specs.Ends.{NextEnds}
 use Rattle.multisets.specs.Values.{Held, sum_at}
 use Rattle.multisets.specs.Levels.{Levels}
@@ -14,12 +15,19 @@ use Rattle.seek.proofs.OneLevel.{tried_level}
 use Rattle.seek.proofs.try_level.Goals as goal
 
 -- the level's tables
-module _ {d end n k d₁ : ℕ} {w nexts by_sum by_set t ends from roles sums nexts₁ sums₁ : List ℕ} (placed : ℕ)
-    (few : n ≤ 6) (known : n ≤ k) (ready : Ready d end w nexts by_sum by_set)
-    (added₁ : Held d end (sum_at w placed) sums₁ (first d (suc n))) (laid : Laid d₁ k nexts₁ t ends from roles sums)
-    (same_d : d₁ ≡ d) (same_nexts : nexts₁ ≡ nexts) (same_sums : sums ≡ sums₁) where
+module _ {users users₁ : Users} {end n k : ℕ} {w by_sum by_set t ends from roles sums sums₁ : List ℕ} (placed : ℕ)
+    (few : n ≤ 6) (known : n ≤ k) (ready : Ready users.d end w users.nexts by_sum by_set)
+    (added₁ : Held users.d end (sum_at w placed) sums₁ (first users.d (suc n)))
+    (laid : Laid users₁.d k users₁.nexts t ends from roles sums)
+    (same : users₁ ≡ users) (same_sums : sums ≡ sums₁) where
+  abbrev d : ℕ
+  d = users.d
+
+  abbrev nexts : List ℕ
+  nexts = users.nexts
+
   levels : Levels d k nexts t ends from roles
-  levels = rw (same_d, same_nexts) at laid.levels
+  levels = rw same at laid.levels
 
   added : Held d end (sum_at w placed) sums (first d (suc n))
   added = rw (← same_sums) at added₁
@@ -55,9 +63,9 @@ module _ {d end n k d₁ : ℕ} {w nexts by_sum by_set t ends from roles sums ne
   }
 
   -- what the search through the level is handed and what it finds, by the places read
-  module _ {from_at count : ℕ} (from_is : from_at ≡ first d₁ n) (count_is : count ≡ starts n end) where
+  module _ {from_at count : ℕ} (from_is : from_at ≡ first users₁.d n) (count_is : count ≡ starts n end) where
     start_is : from_at ≡ first d n
-    start_is = rw same_d at from_is
+    start_is = rw same at from_is
 
     asked : Tables (from_at + count) ends sums roles by_sum by_set × (from_at ≤ from_at + count)
         × (from_at + count ≤ 3003)
@@ -74,22 +82,20 @@ module _ {d end n k d₁ : ℕ} {w nexts by_sum by_set t ends from roles sums ne
 pub meeting-requires : goal.meeting-requires
 meeting-requires g c =
     let p = c.requires in
-    let (added, d₁, nexts₁) = c.sum_level.ensures in
-    let (known, d₂, nexts₂, sums) = c.reach.ensures in
-    asked c.args.weighing.placed p.0 known p.2 added c.reach.new.self.laid (d₂ ∙ d₁) (nexts₂ ∙ nexts₁) sums
+    let (added, users₁) = c.sum_level.ensures in
+    let (known, users₂, sums) = c.reach.ensures in
+    asked c.args.weighing.placed p.0 known p.2 added c.reach.new.self.laid (users₂ ∙ users₁) sums
     c.first_in-first.ensures.0 c.start_in.ensures.0
 
 pub returns : goal.returns
 returns g c =
     let p = c.requires in
-    let (added₁, d₁, nexts₁) = c.sum_level.ensures in
-    let (known, d₂, nexts₂, sums) = c.reach.ensures in
+    let (added₁, users₁) = c.sum_level.ensures in
+    let (known, users₂, sums) = c.reach.ensures in
     let laid = c.reach.new.self.laid in
-    let d = d₂ ∙ d₁ in
-    let nexts = nexts₂ ∙ nexts₁ in (
-      d,
-      nexts,
-      added c.args.weighing.placed p.0 known p.2 added₁ laid d nexts sums,
-      tried c.args.weighing.placed p.0 known p.2 added₁ laid d nexts sums c.first_in-first.ensures.0
+    let users = users₂ ∙ users₁ in (
+      users,
+      added c.args.weighing.placed p.0 known p.2 added₁ laid users sums,
+      tried c.args.weighing.placed p.0 known p.2 added₁ laid users sums c.first_in-first.ensures.0
           c.start_in.ensures.0 c.args.row c.meeting.ensures,
     )

@@ -62,25 +62,26 @@ pub next_ends-nexts-requires : goal.next_ends-nexts-requires
 next_ends-nexts-requires c =
     let p = c.requires in
     let n = c.user_count.ensures in
-    (few_users p.1 p.0.accepted n, idle_past p.1 p.0.accepted n)
+    let acting = c.acting_sets.ensures in
+    (few_users acting p.0.accepted n, idle_past acting p.0.accepted n)
 
 pub fill_in-requires : goal.fill_in-requires
 fill_in-requires c =
     let p = c.requires in
     let few : role_count c.args.base.now ≤ 3 = omega (arith, c.role_count.ensures.0) in
     let (rows, places) = room_for_3 few in
-    (c.grounds_of-s.ensures.1, users_of p.1 c.next_ends-nexts.ensures, rows, places, omega arith, omega arith, p.2)
+    (c.grounds_of-s.ensures.1, users_of c.acting_sets.ensures c.next_ends-nexts.ensures, rows, places, omega arith, omega arith, p.1)
 
 pub fill_in-requires-in-4 : goal.fill_in-requires-in-4
 fill_in-requires-in-4 c =
     let p = c.requires in
     let few : role_count c.args.base.now ≤ 5 = omega (arith, c.role_count.ensures.0) in
     let (rows, places) = room_for_5 few in
-    (c.grounds_of-s.ensures.1, users_of p.1 c.next_ends-nexts.ensures, rows, places, omega arith, omega arith, p.2)
+    (c.grounds_of-s.ensures.1, users_of c.acting_sets.ensures c.next_ends-nexts.ensures, rows, places, omega arith, omega arith, p.1)
 
 pub fill_in-requires-in_default : goal.fill_in-requires-in_default
 fill_in-requires-in_default c =
     let p = c.requires in
     let few : role_count c.args.base.now ≤ 8 = omega (arith, c.role_count.ensures) in
     let (rows, places) = room_for_8 few in
-    (c.grounds_of-s.ensures.1, users_of p.1 c.next_ends-nexts.ensures, rows, places, omega arith, omega arith, p.2)
+    (c.grounds_of-s.ensures.1, users_of c.acting_sets.ensures c.next_ends-nexts.ensures, rows, places, omega arith, omega arith, p.1)

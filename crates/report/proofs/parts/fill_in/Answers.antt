@@ -1,10 +1,11 @@
 -- `fill_in` meets its contract: permission by permission, the parts so far stand and the count is that of those with a
 -- group.
-use Rattle.std.proofs.Common.{ℕ, ◌+◌, ◌-◌, ◌*◌, ◌≤◌, List, ◌≡◌, length, sym, ◌∙◌, ltb, Bool, true, false, arith, rules}
+use Rattle.std.proofs.Common.{ℕ, ◌+◌, ◌-◌, ◌*◌, ◌≤◌, List, ◌≡◌, length, sym, ap, ◌∙◌, ltb, Bool, true, false, arith, rules}
 use Rattle.std.specs.Int.{from_bool}
 use borrow.Rule.Slice.PartMut.{put_mid}
 use Rattle.folds.specs.Below.{count_below}
 use Rattle.folds.proofs.Numbers.{count_none, count_le}
+use Rattle.multisets.specs.declared.ends.Users.{Users}
 use Rattle.report.specs.Smallest.{Deciding, smallest_by}
 use Rattle.report.specs.Report.{releasable}
 use Rattle.report.specs.Parts.{PartFor, Filled}
@@ -44,11 +45,11 @@ loop-p-init g c = record {
 
 pub loop-p-preserved : goal.loop-p-preserved
 loop-p-preserved g c =
-    let (this, d, nexts) = c.part_for-part.ensures in
+    let (this, users) = c.part_for-part.ensures in
     let v = c.loop-p.invariant in
     record {
-      roles = d ∙ v.roles;
-      nexts = nexts ∙ v.nexts;
+      roles = ap (λ (u : Users). u.d) users ∙ v.roles;
+      nexts = ap (λ (u : Users). u.nexts) users ∙ v.nexts;
       counted = count_part _ _ _ _ _ this v.counted (search rules);
       filled = filled_by v.filled this c.wide-at.ensures.0 c.copy_from_slice.ensures.after (omega arith);
     }

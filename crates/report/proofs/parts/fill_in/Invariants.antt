@@ -8,8 +8,8 @@ use Rattle.report.proofs.parts.fill_in.Given as goal
 
 abbrev pub invariant-loop-p : goal.invariant-loop-p
 invariant-loop-p g l = record {
-  roles : l.tables.d ≡ role_count l.base;
-  nexts : l.tables.nexts ≡ l.fn.nexts;
+  roles : l.tables.users.d ≡ role_count l.base;
+  nexts : l.tables.users.nexts ≡ l.fn.nexts;
   counted : l.count ≡ count_below l.p (λ q. ltb 0 (smallest_by (decided l.base l.s.fixed) q));
   filled : Filled (decided l.base l.s.fixed) l.p l.initial.out l.out;
 }

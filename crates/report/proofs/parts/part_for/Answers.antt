@@ -47,9 +47,8 @@ returns g c =
     let s = c.args.s.now.fixed in
     let ok = grounds.settled.accepted in
     let are = c.role_weights-w.ensures (rules_of s) b s.at ok grounds.chosen grounds.settled.fixed.juniors in
-    let (d, nexts, answer) = c.fewest.ensures in
+    let (same, answer) = c.fewest.ensures in
     let a = same_answer c.part-k.ensures.table c.args.permission (answer users.sets users.ends) in (
       part_with _ _ _ _ ok there grounds.settled.in_range users.acting are _ a c.part_of.ensures,
-      d,
-      nexts,
+      same,
     )

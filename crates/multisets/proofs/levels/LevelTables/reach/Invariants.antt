@@ -5,7 +5,6 @@ use Rattle.multisets.proofs.levels.LevelTables.reach.Given as goal
 abbrev pub invariant-loop : goal.invariant-loop
 invariant-loop g l = record {
   known : l.self.known ≡ l.counter;
-  d : l.self.d ≡ l.initial.self.d;
-  nexts : l.self.nexts ≡ l.initial.self.nexts;
+  users : l.self.users ≡ l.initial.self.users;
   sums : l.self.sums ≡ l.initial.self.sums;
 }

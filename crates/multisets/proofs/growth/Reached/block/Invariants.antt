@@ -1,7 +1,7 @@
 use Rattle.std.proofs.Common.{ℕ, suc, ◌+◌, ◌≤◌, ◌<◌, List, ◌≡◌}
 use Rattle.multisets.specs.Ranks.{starts, first}
 use Rattle.multisets.specs.Levels.{Fixed, Kept, Grown}
-use Rattle.multisets.proofs.growth.grow_block.Given as goal
+use Rattle.multisets.proofs.growth.Reached.block.Given as goal
 
 -- the block: those of n + 1 roles whose largest is r
 pub record Block (d n r less here next last : ℕ) (fixed kept : List ℕ) : Type 0 where
@@ -25,5 +25,6 @@ pub record Turn (d n r less here next last : ℕ) (fixed kept nexts : List ℕ) 
   pub grown : Grown d nexts (here + j) t ends from
 
 abbrev pub invariant-loop-j : goal.invariant-loop-j
-invariant-loop-j l =
-    Turn l.d l.n l.r l.less l.here l.next l.j-end l.fixed l.kept l.nexts l.j l.t l.ends l.from
+invariant-loop-j g l =
+    Turn l.users.d l.n l.r l.less l.here l.next l.j-end l.fixed l.kept l.users.nexts l.j l.self.rows l.self.ends
+    l.self.from

@@ -1,5 +1,5 @@
 -- The empty multiset's row is the roles themselves.
-use Rattle.std.proofs.Common.{ℕ, ◌≤◌, ◌<◌, List, [], ◌∷◌, ◌≡◌, refl, sym, ◌∙◌, length, get_or, eqb, arith}
+use Rattle.std.proofs.Common.{ℕ, ◌≤◌, ◌<◌, List, [], ◌∷◌, ◌≡◌, refl, sym, ◌∙◌, length, get_or, eqb, arith, rules}
 use native.Mathlib.Nat.{add-zero}
 use borrow.Author.Tests.{eqb-true}
 use Rattle.folds.specs.Below.{all_below}
@@ -11,7 +11,7 @@ use Rattle.multisets.specs.Levels.{Ups, Grown, Pushing}
 use Rattle.multisets.proofs.Blocks.{starts_empty}
 use Rattle.multisets.proofs.Places.{first_0, first_1, first_le}
 use Rattle.multisets.proofs.Rows.{row_none, rows_more}
-use Rattle.multisets.proofs.growth.grow_none.Goals as goal
+use Rattle.multisets.proofs.growth.Reached.none.Goals as goal
 
 -- the empty multiset with role q more has rank q
 abbrev row : List ℕ
@@ -56,10 +56,12 @@ module _ {d : ℕ} {nexts t ends from : List ℕ} (g : Grown d nexts (first d 0)
   })
 
 pub keep_row-requires : goal.keep_row-requires
-keep_row-requires c = (λ h. room c.requires.1, omega arith)
+keep_row-requires g c = (λ h. room c.requires.1, omega arith)
 
 pub push-requires : goal.push-requires
-push-requires c = pushing c.requires.1 c.requires.0
+push-requires g c = (search rules, pushing c.requires.1 c.requires.0)
 
 pub returns : goal.returns
-returns c = grown c.requires.1 (c.keep_row.ensures.0 (omega arith)) c.push.ensures
+returns g c =
+    let (filled, rows) = c.push.ensures in
+    grown c.requires.1 (rw (← rows) at (c.keep_row.ensures.0 (omega arith))) filled

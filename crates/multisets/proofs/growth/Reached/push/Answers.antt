@@ -7,12 +7,12 @@ use lib.ListN.{length-drop}
 use lib.Seq.{drop-drop, get_or-drop}
 use Rattle.std.proofs.lemmas.List.{get_or-take, length-take}
 use Rattle.multisets.specs.Ranks.{first, more}
-use Rattle.multisets.specs.Ends.{NextTable, Grows, Relaxed}
+use Rattle.multisets.specs.Ends.{NextTable, Grows, Filled, Relaxed}
 use Rattle.multisets.specs.Levels.{Pushing}
 use Rattle.multisets.proofs.Places.{first_five, first_all, place_lt, first_le}
-use Rattle.multisets.proofs.Filling.{filled_more, end_stays, at_within}
-use Rattle.multisets.proofs.ends.push.Invariants.{row, Turn}
-use Rattle.multisets.proofs.ends.push.Goals as goal
+use Rattle.multisets.proofs.Filling.{filled_more, filled_past, end_stays, at_within}
+use Rattle.multisets.proofs.growth.Reached.push.Invariants.{row, Turn}
+use Rattle.multisets.proofs.growth.Reached.push.Goals as goal
 
 -- a place that leads on is one of 1,287
 module _ {d : ℕ} {nexts up : List ℕ} {i next : ℕ} {ends from : List ℕ} (p : Pushing d nexts up i next ends from) where
@@ -130,63 +130,76 @@ module _ {d : ℕ} {nexts up : List ℕ} {i next : ℕ} {ends₀ from₀ : List 
   ups_done : length rest_up ≡ 0 → d ≤ q
   ups_done none = omega (arith, none_left up q turn.left_up none, p.size, p.most)
 
-pub bounds-ends-i : goal.bounds-ends-i
-bounds-ends-i c = place_there c.requires
+  led_on : d ≤ q → Filled d nexts (8 * i + 8) ends from
+  led_on done =
+      let is = p.place in
+      let within = turn.within in
+      let most = p.most in
+      filled_past p.most turn.filled p.n p.m (8 * i + 8) p.some p.few (omega arith) (omega arith) (omega arith)
+
+pub bounds-self-i : goal.bounds-self-i
+bounds-self-i g c = let there = place_there c.requires in search rules
 
 pub behind-row-requires : goal.behind-row-requires
-behind-row-requires c = (first_end c.requires (omega arith), c.requires.most)
+behind-row-requires g c = (first_end c.requires (omega arith), c.requires.most)
 
 pub loop-q-init : goal.loop-q-init
-loop-q-init c =
+loop-q-init g c =
     let given = c.into_iter-q-iterator.ensures.into_iter_gives in
     let items = c.enumerate-q-items.ensures in
     let pairs = c.zip.ensures in
     let none : c.into_iter-q-iterator.result.count ≡ 0 = cc in
     let e : 8 * c.args.i + c.into_iter-q-iterator.result.count ≡ 8 * c.args.i = omega arith in
     record {
-      within = omega arith;
-      filled = rw e c.requires.filled;
-      stays = refl;
-      reached = omega arith;
-      left = rw none (cc);
-      left_up = rw none (cc);
+      turn = record {
+        within = omega arith;
+        filled = rw e c.requires.filled;
+        stays = refl;
+        reached = omega arith;
+        left = rw none (cc);
+        left_up = rw none (cc);
+      };
+      rows = refl;
     }
 
 pub overflow_add-next : goal.overflow_add-next
-overflow_add-next c =
-    let l = target_lt c.requires c.behind-row.ensures.table c.loop-q.invariant c.in-Some.ensures.steps.0 in
+overflow_add-next g c =
+    let l = target_lt c.requires c.behind-row.ensures.table c.loop-q.invariant.turn c.in-Some.ensures.steps.0 in
     omega (arith, l, first_all _ c.requires.most)
 
 pub overflow_mul-i : goal.overflow_mul-i
-overflow_mul-i c = omega (arith, place_few c.requires)
+overflow_mul-i g c = omega (arith, place_few c.requires)
 
 pub overflow_add-i : goal.overflow_add-i
-overflow_add-i c =
+overflow_add-i g c =
     let (cut, is, next, fits) = c.in-Some.ensures.steps in
     let table = c.behind-row.ensures.table in
-    omega (arith, role c.requires table c.loop-q.invariant cut, c.requires.most, place_few c.requires)
+    omega (arith, role c.requires table c.loop-q.invariant.turn cut, c.requires.most, place_few c.requires)
 
 pub overflow_cast-i : goal.overflow_cast-i
-overflow_cast-i c =
+overflow_cast-i g c =
     let (cut, is, next, fits) = c.in-Some.ensures.steps in
     let table = c.behind-row.ensures.table in
-    omega (arith, role c.requires table c.loop-q.invariant cut, c.requires.most, place_few c.requires)
+    omega (arith, role c.requires table c.loop-q.invariant.turn cut, c.requires.most, place_few c.requires)
 
 pub relax-requires : goal.relax-requires
-relax-requires c =
-    let f = c.loop-q.invariant.filled in
-    let l = target_lt c.requires c.behind-row.ensures.table c.loop-q.invariant c.in-Some.ensures.steps.0 in
+relax-requires g c =
+    let f = c.loop-q.invariant.turn.filled in
+    let l = target_lt c.requires c.behind-row.ensures.table c.loop-q.invariant.turn c.in-Some.ensures.steps.0 in
     (omega (arith, l, f.room), omega (arith, l, f.places))
 
 pub loop-q-preserved : goal.loop-q-preserved
-loop-q-preserved c =
+loop-q-preserved g c =
     let (cut, is, next, fits) = c.in-Some.ensures.steps in
-    turn_more c.requires c.behind-row.ensures.table c.loop-q.invariant cut is next c.relax.ensures
+    record {
+      turn = turn_more c.requires c.behind-row.ensures.table c.loop-q.invariant.turn cut is next c.relax.ensures;
+      rows = c.loop-q.invariant.rows;
+    }
 
 pub returns : goal.returns
-returns c =
+returns g c =
     let p = c.requires in
     let table = c.behind-row.ensures.table in
-    let turn = c.loop-q.invariant in
+    let turn = c.loop-q.invariant.turn in
     let done = ⊎_elim (λ r. row_done p table turn r.1.0) (λ r. ups_done p table turn r.1.0) c.in-None.ensures.steps.0 in
-    search rules
+    (led_on p table turn done, c.loop-q.invariant.rows)

@@ -1,5 +1,5 @@
 -- Each multiset of the block gets its row from the one without its largest role, and is pushed on.
-use Rattle.std.proofs.Common.{ℕ, suc, ◌+◌, ◌*◌, ◌≤◌, ◌<◌, List, ◌≡◌, length, get_or, leb, arith}
+use Rattle.std.proofs.Common.{ℕ, suc, ◌+◌, ◌*◌, ◌≤◌, ◌<◌, List, ◌≡◌, length, get_or, leb, arith, rules}
 use mathlib.Core.Logic.{⊎_elim}
 use native.Mathlib.Nat.{lt_of_lt_of_le}
 use borrow.Author.Tests.{leb-true, leb-false}
@@ -11,8 +11,8 @@ use Rattle.multisets.specs.Levels.{Ups, Rows, Grown, Pushing}
 use Rattle.multisets.proofs.Blocks.{block, starts_le}
 use Rattle.multisets.proofs.Places.{first_le, place_lt}
 use Rattle.multisets.proofs.Rows.{step_most, row_made, rows_more, rows_past, row_room}
-use Rattle.multisets.proofs.growth.grow_block.Invariants.{Block, Turn}
-use Rattle.multisets.proofs.growth.grow_block.Goals as goal
+use Rattle.multisets.proofs.growth.Reached.block.Invariants.{Block, Turn}
+use Rattle.multisets.proofs.growth.Reached.block.Goals as goal
 
 -- multiset j of the block, of plain values
 module _ {d n r less here next last : ℕ} {fixed kept nexts : List ℕ} {j : ℕ} {t ends from : List ℕ}
@@ -20,8 +20,8 @@ module _ {d n r less here next last : ℕ} {fixed kept nexts : List ℕ} {j : �
   abbrev b : Block d n r less here next last fixed kept
   b = turn.block
 
-  abbrev g : Grown d nexts (here + j) t ends from
-  g = turn.grown
+  abbrev grown : Grown d nexts (here + j) t ends from
+  grown = turn.grown
 
   role_eight : r < 8
   role_eight = lt_of_lt_of_le b.role b.most
@@ -42,7 +42,7 @@ module _ {d n r less here next last : ℕ} {fixed kept nexts : List ℕ} {j : �
   before = let e = b.here_is in omega (arith, place_lt d n j some_less)
 
   ups : Ups n j t (8 * (less + j))
-  ups = rw b.less_is (g.rows.row n j b.few some_less before)
+  ups = rw b.less_is (grown.rows.row n j b.few some_less before)
 
   made : {up : List ℕ} →
       ((q : ℕ) → q < 8 → get_or up q 0 ≡ get_or fixed q 0 + get_or t (8 * (less + j) + q) 0 * get_or kept q 0) →
@@ -52,7 +52,7 @@ module _ {d n r less here next last : ℕ} {fixed kept nexts : List ℕ} {j : �
   less_room : 8 * (less + j) + 8 ≤ length t
   less_room =
       let e = b.less_is in
-      omega (arith, g.rows.room, place_lt d n j some_less, first_le d (suc n) 5 (let h = b.few in omega arith))
+      omega (arith, grown.rows.room, place_lt d n j some_less, first_le d (suc n) 5 (let h = b.few in omega arith))
 
   asked : (8 * (less + j) + 8 ≤ length t) × (8 * (less + j) ≤ 100000)
       × ((q : ℕ) → q < 8 → get_or fixed q 0 + get_or t (8 * (less + j) + q) 0 * get_or kept q 0 ≤ 6006)
@@ -66,16 +66,16 @@ module _ {d n r less here next last : ℕ} {fixed kept nexts : List ℕ} {j : �
   here_few = omega (arith, l, b.here_most, b.last_most)
 
   here_room : n + 1 ≤ 4 → 8 * (here + j) + 8 ≤ length t
-  here_room h = row_room g.rows (suc n) (starts (suc n) r + j) (omega arith) some_here place
+  here_room h = row_room grown.rows (suc n) (starts (suc n) r + j) (omega arith) some_here place
 
   rows : {up t' : List ℕ} → Ups (suc n) (starts (suc n) r + j) up 0 →
       (n + 1 ≤ 4 → Written (λ q. get_or up q 0) (8 * (here + j)) 8 t t') → (5 ≤ n + 1 → t' ≡ t) →
       Rows d (here + j + 1) t'
   rows {up} {t'} u kept same = ⊎_elim
       (λ h. let k = leb-true (n + 1) 4 h in
-      rows_more g.rows (suc n) (starts (suc n) r + j) {up = up} (omega arith) some_here place u (kept k))
+      rows_more grown.rows (suc n) (starts (suc n) r + j) {up = up} (omega arith) some_here place u (kept k))
       (λ h. let k = leb-false (n + 1) 4 h in
-      rw (same k) (rows_past g.rows (here + j + 1) (past k)))
+      rw (same k) (rows_past grown.rows (here + j + 1) (past k)))
       (met_or_not (leb (n + 1) 4))
     where
       past : 4 < n + 1 → first d 5 ≤ here + j
@@ -96,7 +96,7 @@ module _ {d n r less here next last : ℕ} {fixed kept nexts : List ℕ} {j : �
         ahead = omega arith;
         size = size;
         ups = u;
-        filled = g.filled;
+        filled = grown.filled;
       }
 
   led_on : {up t' ends' from' : List ℕ} → Ups (suc n) (starts (suc n) r + j) up 0 →
@@ -119,25 +119,26 @@ block_end {d} {n} {r} {here = here} {j = j} turn w l =
     rw e at turn.grown
 
 pub ups_of-up-requires : goal.ups_of-up-requires
-ups_of-up-requires c = asked c.loop-j.invariant c.loop-j-test.true
+ups_of-up-requires g c = asked c.loop-j.invariant c.loop-j-test.true
 
 pub keep_row-requires : goal.keep_row-requires
-keep_row-requires c =
+keep_row-requires g c =
     let t = c.loop-j.invariant in
     let l = c.loop-j-test.true in
     (here_room t l, here_few t l)
 
 pub push-requires : goal.push-requires
-push-requires c =
+push-requires g c =
     let t = c.loop-j.invariant in
     let l = c.loop-j-test.true in
-    pushing t l c.ups_of-up.ensures.0 (made t l c.ups_of-up.ensures.1)
+    (search rules, pushing t l c.ups_of-up.ensures.0 (made t l c.ups_of-up.ensures.1))
 
 pub loop-j-preserved : goal.loop-j-preserved
-loop-j-preserved c =
+loop-j-preserved g c =
     let t = c.loop-j.invariant in
     let l = c.loop-j-test.true in
-    led_on t l (made t l c.ups_of-up.ensures.1) c.keep_row.ensures c.push.ensures
+    let (filled, rows) = c.push.ensures in
+    led_on t l (made t l c.ups_of-up.ensures.1) (rw (← rows) at c.keep_row.ensures) filled
 
 pub returns : goal.returns
-returns c = block_end c.loop-j.invariant c.loop-j.auto.j-end c.loop-j-test.false
+returns g c = block_end c.loop-j.invariant c.loop-j.auto.j-end c.loop-j-test.false

@@ -1,6 +1,6 @@
 use Rattle.std.proofs.Common.{ℕ, ◌+◌, ◌*◌, ◌≤◌, ◌<◌, List, ◌≡◌, take, drop, get_or}
 use Rattle.multisets.specs.Ends.{Filled}
-use Rattle.multisets.proofs.ends.push.Given as goal
+use Rattle.multisets.proofs.growth.Reached.push.Given as goal
 
 -- the next ends from one on, role by role
 abbrev pub row : ℕ → List ℕ → ℕ → List ℕ
@@ -17,6 +17,9 @@ pub record Turn (d : ℕ) (nexts up : List ℕ) (i end q : ℕ) (rest rest_up en
   pub left_up : rest_up ≡ drop q up
 
 abbrev pub invariant-loop-q : goal.invariant-loop-q
-invariant-loop-q l =
-    let items = l.q-iterator in
-    Turn l.d l.nexts l.up l.i l.end items.count items.iter.a.rest.now items.iter.b.rest.now l.ends l.from
+invariant-loop-q g l =
+    let items = l.q-iterator in record {
+      turn : Turn l.users.d l.users.nexts l.up l.i l.end items.count items.iter.a.rest.now items.iter.b.rest.now
+          l.self.ends l.self.from;
+      rows : l.self.rows ≡ l.initial.self.rows;
+    }
