@@ -22,4 +22,4 @@ pub returns-else-self-i : goal.returns-else-self-i
 unfolding fits
 returns-else-self-i c =
     let a = c.args in
-    c.all_pass.ensures (fits_at a.self.now.table.now a.i a.p a.v) (λ k r q. search (rules, tests))
+    c.all_pass.ensures (fits_at a.self.now.table.now a.i a.p a.v) (λ k r l q. search (rules, tests))
