@@ -1,9 +1,10 @@
 -- Chains over the numbers below n, against the folds of `specs/Below`, and tests over a list.
 use Prim.Native.Nat.{ℕ, zero, suc, ◌+◌, ◌<◌, ◌≤◌}
-use mathlib.Core.Bool.{Bool, false, ◌||◌, not, cond, or-false, and-true}
+use mathlib.Core.Bool.{Bool, true, false, ◌&&◌, ◌||◌, not, cond, or-false, and-true}
 use mathlib.Core.List.{List, [], ◌∷◌, ◌++◌, map, map-id}
 use mathlib.Core.Logic.{⊎_elim}
-use mathlib.Core.Path.{◌≡◌, refl, ap, sym, ◌∙◌}
+use mathlib.Core.Path.{◌≡◌, refl, ap, subst, sym, ◌∙◌}
+use native.Mathlib.Nat.{add-zero}
 use native.Mathlib.Numerals.{add-one}
 use native.Mathlib.Omega.{arith}
 use borrow.Author.Tests.{eqb-true}
@@ -12,17 +13,21 @@ use lib.Dec.{eqb}
 use lib.ListN.{length, get_or, take}
 use Rattle.std.specs.Bool.{⊤}
 use Rattle.std.specs.Fn.{Called}
-use Rattle.std.specs.Iterator.{ChecksAny, ChecksAll, Drains}
+use Rattle.std.specs.Iterator.{AlwaysYields, Yields, ChecksAny, ChecksAll, Drains}
+use Rattle.std.specs.Option.{MatchOption}
+use Rattle.std.specs.declared.option.Option.{Option}
+use Rattle.std.specs.declared.option.Option.TheVariants.{Some, None}
 use Rattle.std.specs.Iterator.Adapters.{map_source, map_callee}
 use Rattle.std.specs.Iterator.Runs.{EachRunFrom}
 use Rattle.std.specs.declared.iter.Map.{Map}
 use Rattle.std.specs.declared.ops.Range.{Range}
-use Rattle.std.specs.List.{list_any, list_all, fold, sum, filter, range_with_len}
+use Rattle.std.specs.List.{FoldsTo, list_any, list_all, fold, sum, filter, range_with_len}
 use Rattle.std.proofs.iter.Yields.{nat_range_steps}
 use Rattle.std.proofs.lemmas.Iterator.{YieldsList, maps, YieldsList-from_range, YieldsList-from_map}
 use Rattle.std.proofs.lemmas.Iterator.Consumers.{sum_from_yields_List, fits_from_yields_list}
 use Rattle.std.proofs.lemmas.Iterator.Search.{any_from_yields_List, all_from_yields_List}
 use Rattle.std.proofs.lemmas.List.Folds.{list_any-append, list_all-append, list_any_more, list_any_at}
+use Rattle.std.proofs.lemmas.List.FromFn.{get_or-map-range_with_len, length-map-range_with_len}
 use Rattle.std.proofs.lemmas.List.FromFn.{map-range_with_len_more, sum_by-map-range_with_len_more}
 use Rattle.std.proofs.lemmas.List.Sums.{length-filter, sum-map}
 use Rattle.folds.specs.Below.{any_below, all_below, sum_below, count_below}
@@ -68,6 +73,53 @@ module _ {F : Type 0} {g : Mut F (ℕ × Unit {0}) Bool} {s : Range ℕ} (p : �
   pub all_of_range : ChecksAll nat_range_steps g s f r u → r ≡ all_below n p
   all_of_range ran =
       all_from_yields_List p u f r ran (YieldsList-from_range 0 n n whole (omega arith)) each ∙ all_chain p n
+
+-- what `all` answers over the items of a list, by a closure that answers p k at the item of place k
+module _ {S A B F : Type 0} (steps : S → Option A → S → Type 0) {v : A → B} {g : Mut F (A × Unit {0}) Bool} {f : F}
+    {r : Bool} {t u : S} (p : ℕ → Bool) where
+  -- with i items before those of ys
+  places_from : (i : ℕ) (ys : List B) (s : S) → AlwaysYields steps v s ys →
+      ((k : ℕ) (x : A) (b : Bool) (q : F) → k < length ys → v x ≡ get_or ys k (v x) → Called g f (x, tt) b q →
+      (q ≡ f) × (b ≡ p (i + k))) →
+      (xs : List A) (o : Option A) (j : F) → Yields steps s xs t → steps t o u →
+      FoldsTo (λ c x q. Called g c (x, tt) true q) f xs j →
+      MatchOption o (r ≡ true) (λ x. (r ≡ false) × ((q : F) × Called g j (x, tt) false q)) →
+      r ≡ list_all p (range_with_len i (length ys))
+  places_from i [] s runs each [] None j came last ran told = told
+  places_from i [] s runs each [] (Some x) j came last ran told =
+      absurd (runs x u (subst (λ c. steps c (Some x) u) (sym came) last))
+  places_from i [] s runs each (x ∷ xs) o j (c, step, came) last ran told = absurd (runs x c step)
+  places_from i (z ∷ ys) s runs each [] None j came last ran told =
+      absurd (runs.0 u (subst (λ c. steps c None u) (sym came) last))
+  places_from i (z ∷ ys) s runs each [] (Some x) j came last ran (is, (q, called)) =
+      let (at, more) = runs.1 x u (subst (λ c. steps c (Some x) u) (sym came) last) in
+      let told = each 0 x false q (omega arith) at (subst (λ c. Called g c (x, tt) false q) (sym ran) called) in
+      rw (is, ← add-zero i, ← told.1)
+  places_from i (z ∷ ys) s runs each (x ∷ xs) o j (c, step, came) last (q, called, ran) told =
+      let (at, more) = runs.1 x c step in
+      let (same, holds) = each 0 x true q (omega arith) at called in
+      places_from (i + 1) ys c more
+      (λ k x b q l is call. let (kept, e) = each (suc k) x b q (omega arith) is call in (kept, e ∙ ap p (omega arith)))
+      xs o j came last (subst (λ e. FoldsTo (λ c x q. Called g c (x, tt) true q) e xs j) same ran) told
+      ∙ ap (λ b. b && list_all p (range_with_len (i + 1) (length ys))) (holds ∙ ap p (add-zero i))
+
+-- and over the items h k that a closure makes of the numbers k below n
+module _ {A F G : Type 0} {m : Mut F (ℕ × Unit {0}) A} {g : Mut G (A × Unit {0}) Bool} {maker : F} {test : G}
+    {s u : Map (Range ℕ) F} {r : Bool} (h : ℕ → A) (p : ℕ → Bool) (n : ℕ) where
+  pub all_of_mapped : ChecksAll (maps nat_range_steps m) g s test r u →
+      map_source s ≡ record { start = 0; end = n } → map_callee s ≡ maker →
+      ((x : ℕ) (y : A) (q : F) → Called m maker (x, tt) y q → (q ≡ maker) × (y ≡ h x)) →
+      ((k : ℕ) (b : Bool) (q : G) → k < n → Called g test (h k, tt) b q → (q ≡ test) × (b ≡ p k)) → r ≡ all_below n p
+  all_of_mapped (xs, o, j, (t, came, last), ran, told) whole callee makes answers =
+      let road = YieldsList-from_map m h (YieldsList-from_range 0 n n whole (omega arith)) callee makes in
+      let long = length-map-range_with_len h 0 n in
+      places_from (maps nat_range_steps m) p 0 (map h (range_with_len 0 n)) s road.runs
+      (λ k x b q l at call.
+      let is = at ∙ get_or-map-range_with_len h 0 n k k x (omega (arith, l, long)) (omega arith) in
+      let (same, e) = answers k b q (omega (arith, l, long)) (subst (λ y. Called g test (y, tt) b q) is call) in
+      (same, e ∙ ap p (omega arith)))
+      xs o j came last ran told
+      ∙ ap (λ k. list_all p (range_with_len 0 k)) long ∙ all_chain p n
 
 -- what `sum` answers over the numbers below n, each mapped by a closure that computes f, and that it fits
 module _ {F : Type 0} {g : Mut F (ℕ × Unit {0}) ℕ} {k : F} {s : Map (Range ℕ) F} (f : ℕ → ℕ) (n : ℕ)

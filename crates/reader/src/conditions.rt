@@ -47,15 +47,12 @@ pub fn count(records: &[u8], i: usize) -> usize
 pub fn all_pass<C: Condition, F: Fn(C) -> bool>(records: &[u8], i: usize, test: F) -> bool
     requires inside { (16 * i + 16 ≤ length records.now) × (condition_count records.now i ≤ C.SLOTS) }
     requires callable { (j : ℕ) → j < condition_count records.now i → F.pre test (C.at records.now i j) }
-    ensures { (p : ℕ → Bool) → ((j : ℕ) (r : Bool) → F.post test (C.at records.now i j) r → r ≡ p j) →
-        result ≡ all_below (condition_count records.now i) p }
+    ensures { (p : ℕ → Bool) → ((j : ℕ) (r : Bool) → j < condition_count records.now i →
+        F.post test (C.at records.now i j) r → r ≡ p j) → result ≡ all_below (condition_count records.now i) p }
 {
-    // `map` to the conditions and then `all` would need no clause, and takes up to 1.04 times the instructions.
-    (0..count(records, i)).all(
-        |j|
-            requires { (16 * i + 16 ≤ length records.now) × (j < C.SLOTS) × F.pre test (C.at records.now i j) }
-        { test(C::read(records, i, j)) },
-    )
+    (0..count(records, i))
+        .map(|j| C::read(records, i, j))
+        .all(test)
 }
 
 // Slot j of record i: one of the n, which keeps the rules, or one beyond n, which is zero bytes.

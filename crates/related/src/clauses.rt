@@ -1,5 +1,5 @@
 // Related context numbers: some one context satisfies both, found at the first pair of clauses that can hold together.
-ghost use Rattle.std.specs.Prelude.{◌≡◌, false, ◌+◌, ◌*◌, ◌≤◌, ◌<◌, length};
+ghost use Rattle.std.specs.Prelude.{◌≡◌, false, ◌+◌, ◌*◌, ◌≤◌, ◌<◌, length, List, ℕ};
 ghost use Rattle.reader.specs.Tables.{contexts, record_count};
 ghost use Rattle.reader.specs.Fields.{context_length};
 ghost use Rattle.reader.specs.Rules.{contexts_bad};
@@ -9,19 +9,35 @@ ghost use Rattle.related.specs.Related.{meetable, compatible, joins, related};
 use reader::RANGES;
 use reader::conditions::{self, Condition};
 use reader::contexts::ContextCondition;
+use std::marker::Model;
 
-// A table C that passed the check.
-#[derive(Clone, Copy)]
-pub struct Clauses<'a> {
-    pub table: &'a [u8],
-    ghost fine: { contexts_bad table.now ≡ false },
-    ghost whole: { length table.now ≡ 16 * record_count contexts table.now },
+// A table C of whole records that passed the check, seen as its bytes.
+#[derive(Drop)]
+pub struct ContextClauses<'a> {
+    table: &'a [u8],
 }
 
-impl Clauses<'_> {
+impl<'a> Model for ContextClauses<'a> {
+    ghost Value = { List ℕ };
+
+    ghost view = { λ c. c.table.now };
+
+    ghost invariant = { λ c. (contexts_bad c.table.now ≡ false)
+        × (length c.table.now ≡ 16 * record_count contexts c.table.now) };
+}
+
+impl<'a> ContextClauses<'a> {
+    // Inner: the clauses of such a table.
+    pub fn of(table: &'a [u8]) -> ContextClauses<'a>
+        requires { (contexts_bad table.now ≡ false) × (length table.now ≡ 16 * record_count contexts table.now) }
+        ensures { result ≡ table.now }
+    {
+        ContextClauses { table }
+    }
+
     // Clause i is one of the context number; 255 counts as one clause without conditions, behind the others.
     fn clause_of(&self, number: u8, i: usize) -> bool
-        ensures { result ≡ clause_of self.now.table.now number i }
+        ensures { result ≡ clause_of self.now number i }
     {
         if i < self.table.len() / 16 {
             self.table[16 * i] == number
@@ -32,7 +48,7 @@ impl Clauses<'_> {
 
     // The number of conditions of clause i; none behind the table.
     fn length_of(&self, i: usize) -> usize
-        ensures { (result ≡ context_length self.now.table.now i) × (result ≤ 3) }
+        ensures { result ≡ context_length self.now i }
     {
         if i < self.table.len() / 16 {
             conditions::count(self.table, i)
@@ -43,7 +59,7 @@ impl Clauses<'_> {
 
     // Value v of parameter p meets the conditions of clause i on that parameter; there are none behind the table.
     fn fits_all(&self, i: usize, p: u8, v: u32) -> bool
-        ensures { result ≡ fits self.now.table.now i p v }
+        ensures { result ≡ fits self.now i p v }
     {
         self.table.len() / 16 <= i
             || conditions::all_pass(self.table, i, |condition: ContextCondition| {
@@ -54,15 +70,15 @@ impl Clauses<'_> {
 
     fn both_fit(&self, i: usize, j: usize, p: u8, v: u32) -> bool
         requires { p < 3 }
-        ensures { result ≡ both_fit self.now.table.now i j p v }
+        ensures { result ≡ both_fit self.now i j p v }
     {
         v < RANGES[p as usize] as u32 && self.fits_all(i, p, v) && self.fits_all(j, p, v)
     }
 
     // Condition k of clause s is on parameter p, and its value, or one more, meets the conditions of clauses i and j.
     fn value_fits(&self, s: usize, i: usize, j: usize, p: u8, k: usize) -> bool
-        requires { (p < 3) × (16 * s + 16 ≤ length self.now.table.now) × (k < 3) }
-        ensures { result ≡ value_fits self.now.table.now s i j p k }
+        requires { (p < 3) × (k < context_length self.now s) }
+        ensures { result ≡ value_fits self.now s i j p k }
     {
         let condition = ContextCondition::read(self.table, s, k);
         let value = u32::from(condition.value);
@@ -73,14 +89,14 @@ impl Clauses<'_> {
     // Some condition's value of clause s, or one more, does.
     fn some_value_fits(&self, s: usize, i: usize, j: usize, p: u8) -> bool
         requires { p < 3 }
-        ensures { result ≡ some_value_fits self.now.table.now s i j p }
+        ensures { result ≡ some_value_fits self.now s i j p }
     {
         (0..self.length_of(s)).any(|k| self.value_fits(s, i, j, p, k))
     }
 
     fn can_meet(&self, i: usize, j: usize, p: u8) -> bool
         requires { p < 3 }
-        ensures { result ≡ meetable self.now.table.now i j p }
+        ensures { result ≡ meetable self.now i j p }
     {
         self.both_fit(i, j, p, 0)
             || self.some_value_fits(i, i, j, p)
@@ -89,21 +105,21 @@ impl Clauses<'_> {
 
     // Clauses i and j can hold together.
     fn are_compatible(&self, i: usize, j: usize) -> bool
-        ensures { result ≡ compatible self.now.table.now i j }
+        ensures { result ≡ compatible self.now i j }
     {
         (0..3u8).all(|p| self.can_meet(i, j, p))
     }
 
     // Clause j of the context number can hold together with clause i.
     fn joins_clause(&self, number: u8, i: usize, j: usize) -> bool
-        ensures { result ≡ joins self.now.table.now number i j }
+        ensures { result ≡ joins self.now number i j }
     {
         self.clause_of(number, j) && self.are_compatible(i, j)
     }
 
     // Inner: the context numbers x and y are related. Document 01 asks for nested loops that a label leaves.
     pub fn are_related(&self, x: u8, y: u8) -> bool
-        ensures { result ≡ related self.now.table.now x y }
+        ensures { result ≡ related self.now x y }
     {
         let end = self.table.len() / 16 + 1;
         let mut found = false;

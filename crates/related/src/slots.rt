@@ -5,7 +5,7 @@ ghost use Rattle.reader.specs.Tables.{contexts, record_count};
 ghost use Rattle.reader.specs.Rules.{contexts_bad, policies_bad};
 ghost use Rattle.related.specs.Slots.{slot_of, number_at, named, related_slots, Relations};
 
-use crate::clauses::Clauses;
+use crate::clauses::ContextClauses;
 use std::array;
 
 // Inner: the place of a context number: 0 to 15, and 16 for 255, which the format writes for no context.
@@ -31,9 +31,9 @@ pub fn names(a: &[u8]) -> u32
 }
 
 // Slots s and t are named, s isn't above t, and their numbers are related.
-fn slots_related(c: &Clauses, names: u32, s: u8, t: u8) -> bool
+fn slots_related(c: &ContextClauses<'_>, names: u32, s: u8, t: u8) -> bool
     requires { (s < 17) × (t < 17) }
-    ensures { result ≡ related_slots c.now.table.now names s t }
+    ensures { result ≡ related_slots c.now names s t }
 {
     weights::sets::in_set(names, s)
         && weights::sets::in_set(names, t)
@@ -41,9 +41,9 @@ fn slots_related(c: &Clauses, names: u32, s: u8, t: u8) -> bool
         && c.are_related(number_at(s), number_at(t))
 }
 
-fn relation_row(c: &Clauses, names: u32, s: u8) -> u32
+fn relation_row(c: &ContextClauses<'_>, names: u32, s: u8) -> u32
     requires { s < 17 }
-    ensures { (t : ℕ) → t < 17 → in_set result t ≡ related_slots c.now.table.now names s t }
+    ensures { (t : ℕ) → t < 17 → in_set result t ≡ related_slots c.now names s t }
 {
     if weights::sets::in_set(names, s) {
         (s..17)
@@ -59,6 +59,6 @@ pub fn relations(c: &[u8], names: u32) -> [u32; 17]
     requires { (contexts_bad c.now ≡ false) × (length c.now ≡ 16 * record_count contexts c.now) }
     ensures { Relations c.now names result }
 {
-    let clauses = Clauses { table: c };
+    let clauses = ContextClauses::of(c);
     array::from_fn(|s| relation_row(&clauses, names, s as u8))
 }

@@ -8,4 +8,4 @@ unfolding clause_holds condition_holds
 returns c =
     let a = c.args.attributes in
     c.all_pass.ensures (condition_holds c.args.k.now a.entries a.sum a.roles c.args.i)
-    (λ j r k. search (rules, tests))
+    (λ j r l k. search (rules, tests))

@@ -12,7 +12,7 @@ use Rattle.related.proofs.slots.relation_row.Goals as goal
 pub returns-then-in_set : goal.returns-then-in_set
 returns-then-in_set c =
     let s = c.args.s in
-    let p = related_slots c.args.c.now.table.now c.args.names s in
+    let p = related_slots c.args.c.now c.args.names s in
     λ t l.
     gathered_from p s 17 (omega arith) c.fold.ensures.ran c.filter.ensures.source c.filter.ensures.closure
     (λ x b q k. search (rules, tests)) (λ a x b q k. search rules)

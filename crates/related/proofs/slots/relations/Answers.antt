@@ -6,6 +6,7 @@ use Rattle.folds.proofs.Arrays.{made_each}
 use Rattle.related.proofs.slots.relations.Goals as goal
 
 pub returns : goal.returns
+unfolding in_set
 returns c =
     let Row : ℕ → ℕ → Type 0 = λ s row. (t : ℕ) → t < 17 → in_set row t ≡ related_slots c.args.c.now c.args.names s t in
     let each =

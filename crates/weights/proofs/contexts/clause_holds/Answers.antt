@@ -6,4 +6,4 @@ use Rattle.weights.proofs.contexts.clause_holds.Goals as goal
 pub returns : goal.returns
 unfolding context_clause_holds context_condition_holds
 returns c =
-    c.all_pass.ensures (context_condition_holds c.args.at c.args.c.now c.args.i) (λ j r k. search (rules, tests))
+    c.all_pass.ensures (context_condition_holds c.args.at c.args.c.now c.args.i) (λ j r l k. search (rules, tests))

@@ -2,7 +2,7 @@ use Rattle.std.proofs.Common.{ℕ, ◌+◌, Bool, false, List, ◌≡◌}
 use Rattle.folds.proofs.Searches.{NoneYet}
 use Rattle.reader.specs.Tables.{contexts, record_count}
 use Rattle.related.specs.Related.{joins, meets_some}
-use Rattle.related.proofs.clauses.Clauses.are_related.Given as goal
+use Rattle.related.proofs.clauses.ContextClauses.are_related.Given as goal
 
 -- the clauses of the table, and the one of 255 behind them
 abbrev pub clause_count : List ℕ → ℕ
@@ -19,7 +19,7 @@ pub record Inner (c : List ℕ) (y : ℕ) (found : Bool) (i j : ℕ) : Type 0 wh
   pub unmatched : NoneYet (clause_count c) (joins c y i) j
 
 abbrev pub invariant-pairs : goal.invariant-pairs
-invariant-pairs l = Outer l.self.table.now l.x l.y l.found l.i
+invariant-pairs l = Outer l.self l.x l.y l.found l.i
 
 abbrev pub invariant-loop-j : goal.invariant-loop-j
-invariant-loop-j l = Inner l.self.table.now l.y l.found l.i l.j
+invariant-loop-j l = Inner l.self l.y l.found l.i l.j

@@ -6,9 +6,9 @@ use Rattle.folds.proofs.Bools.{and_both}
 use Rattle.folds.proofs.Searches.{none_at_first, none_further, one_found, none_found}
 use Rattle.related.specs.Related.{clause_of, joins, meets_some}
 use Rattle.related.proofs.Relating.{related_pairs}
-use Rattle.related.proofs.clauses.Clauses.are_related.Invariants.{clause_count, Outer, Inner}
-use Rattle.related.proofs.clauses.Clauses.are_related.Goals as goal
-use Rattle.related.proofs.clauses.Clauses.are_related.Goals.{then-clause_of+else-loop-j-test, else-clause_of}
+use Rattle.related.proofs.clauses.ContextClauses.are_related.Invariants.{clause_count, Outer, Inner}
+use Rattle.related.proofs.clauses.ContextClauses.are_related.Goals as goal
+use Rattle.related.proofs.clauses.ContextClauses.are_related.Goals.{then-clause_of+else-loop-j-test, else-clause_of}
 
 next_inner : {c : List ℕ} {y : ℕ} {found : Bool} {i j : ℕ} {r : Bool} → Inner c y found i j → j < clause_count c →
     r ≡ joins c y i j → r ≡ false → Inner c y found i (j + 1)
@@ -46,26 +46,30 @@ loop-j-init c = record { unfound = c.pairs.invariant.unfound; unmatched = none_a
 
 pub loop-j-preserved : goal.loop-j-preserved
 loop-j-preserved c =
-    next_inner c.loop-j.invariant c.loop-j-test.true c.joins_clause.ensures c.if-joins_clause.false
+    next_inner c.loop-j.invariant (rw (← c.self.view_is) c.loop-j-test.true) c.joins_clause.ensures
+    c.if-joins_clause.false
 
 pub pairs-preserved : goal.pairs-preserved
 pairs-preserved c =
     let outer = c.pairs.invariant in
-    let more = c.pairs-test.true in
+    let more : c.pairs.i < clause_count c.args.self.now = rw (← c.self.view_is) c.pairs-test.true in
     elim c.if-clause_of.branch [
       | then-clause_of+else-loop-j-test w ↦
-          no_match outer more c.clause_of.ensures w.if-clause_of.true w.loop-j.invariant w.loop-j-test.false w.found-is
+          no_match outer more c.clause_of.ensures w.if-clause_of.true w.loop-j.invariant
+          (rw (← c.self.view_is) w.loop-j-test.false) w.found-is
       | else-clause_of w ↦ other outer more c.clause_of.ensures w.if-clause_of.false w.found-is
     ]
 
 pub returns-after-pairs : goal.returns-after-pairs
 returns-after-pairs c =
     let outer = c.pairs.invariant in
-    outer.unfound ∙ none_found outer.unmatched c.pairs-test.false
-    ∙ sym (related_pairs c.args.self.now.table.now c.args.self.now.fine c.args.self.now.whole c.args.x c.args.y)
+    let (fine, whole) = rw c.self.view_is at c.self.invariant in
+    outer.unfound ∙ none_found outer.unmatched (rw (← c.self.view_is) c.pairs-test.false)
+    ∙ sym (related_pairs c.args.self.now fine whole c.args.x c.args.y)
 
 pub returns-then-joins_clause : goal.returns-then-joins_clause
 returns-then-joins_clause c =
-    match c.pairs.invariant c.pairs-test.true c.clause_of.ensures c.if-clause_of.true c.loop-j.invariant
-    c.loop-j-test.true c.joins_clause.ensures c.if-joins_clause.true
-    ∙ sym (related_pairs c.args.self.now.table.now c.args.self.now.fine c.args.self.now.whole c.args.x c.args.y)
+    let (fine, whole) = rw c.self.view_is at c.self.invariant in
+    match c.pairs.invariant (rw (← c.self.view_is) c.pairs-test.true) c.clause_of.ensures c.if-clause_of.true
+    c.loop-j.invariant (rw (← c.self.view_is) c.loop-j-test.true) c.joins_clause.ensures c.if-joins_clause.true
+    ∙ sym (related_pairs c.args.self.now fine whole c.args.x c.args.y)
