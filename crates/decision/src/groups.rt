@@ -2,7 +2,8 @@
 ghost use Rattle.std.specs.Prelude.{◌≡◌, ℕ, ◌+◌, ◌*◌, ◌≤◌, ◌<◌, length, get_or};
 ghost use Rattle.weights.specs.Acting.{may_act};
 ghost use Rattle.decision.specs.Groups.{entry_count, entry_user, entry_role, sum_of, roles_of, length_refused};
-ghost use Rattle.decision.specs.Groups.{some_unknown, stands_before, some_twice, some_ineligible, some_weightless};
+ghost use Rattle.decision.specs.Groups.{unknown, some_unknown, stands_before, some_twice, some_ineligible};
+ghost use Rattle.decision.specs.Groups.{some_weightless};
 
 use weights::acting::Acting;
 
@@ -33,13 +34,20 @@ pub fn length_refused(g: &[u8]) -> bool
     g.is_empty() || g.len() % 2 != 0 || 12 < g.len()
 }
 
+// Inner: refusal 13 of one entry.
+pub fn is_unknown(users: usize, roles: u8, user: u32, role: u32) -> bool
+    ensures { result ≡ unknown users roles user role }
+{
+    users <= user as usize || u32::from(roles) <= role
+}
+
 // Inner: refusal 13.
 pub fn some_unknown(g: &[u8], users: usize, roles: u8) -> bool
     ensures { result ≡ some_unknown users roles g.now }
 {
     (0..g.len() / 2).any(|i| {
         let Entry { user, role } = Entry::of(g, i);
-        users <= user as usize || roles <= role
+        is_unknown(users, roles, u32::from(user), u32::from(role))
     })
 }
 

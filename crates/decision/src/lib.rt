@@ -19,7 +19,8 @@ pub mod members;
 use conditions::Attributes;
 use members::Members;
 
-// Entry point: whether the group is granted; else the first refusal of 1 to 17 that applies.
+// Entry point: whether the group is granted; else the first refusal of 1 to 17 that applies. `decide_by` differs in
+// which refusals come first; what follows is one function.
 pub fn decide(base: &[u8], permission: u32, at: Context, group: &[u8]) -> Result<(), Refusal>
     ensures { number_of result ≡ decision_of base.now at permission group.now }
 {

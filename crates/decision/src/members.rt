@@ -29,6 +29,7 @@ impl<'a> Members<'a> {
     pub fn of(acting: &Acting<'_>, group: &'a [u8]) -> Result<Members<'a>, Refusal>
         ensures number { number_of result ≡ members_of acting.now group.now }
         ensures same { IfOk result (λ members. members ≡ group.now) }
+        ensures seated { IfOk result (λ members. Seated members) }
     {
         if groups::length_refused(group) {
             return Err(Refusal::GroupLength);

@@ -8,6 +8,7 @@ ghost use Rattle.sheet.specs.Outcomes.{unopened, opening_outcome, outcome_of};
 ghost use Rattle.sheet.specs.Sheets.{unsigned, opened, signed, asked, with_entry};
 ghost use Rattle.sheet.specs.Sheets.{held_on, holding, entries_without, withdrawn};
 
+use decision::groups::Entry;
 use reader::Refusal;
 use weights::Context;
 
@@ -59,7 +60,10 @@ pub fn sign(base: &[u8], s: Sheet, user: u32, role: u32) -> Result<Sheet, Refusa
 {
     entries::sign_refusal(base, s.held(), user, role)?;
     let mut sheet = s;
-    sheet.add(user as u8, role as u8);
+    sheet.add(Entry {
+        user: user as u8,
+        role: role as u8,
+    });
     Ok(sheet)
 }
 
@@ -99,13 +103,13 @@ impl Sheet {
     }
 
     // Puts an entry behind those claimed, where there is room for it.
-    fn add(&mut self, user: u8, role: u8)
+    fn add(&mut self, entry: Entry)
         requires { self.old.count < 6 }
-        ensures { self.new ≡ with_entry self.old user role }
+        ensures { self.new ≡ with_entry self.old entry.user entry.role }
     {
         let at = 2 * usize::from(self.count);
-        self.entries[at] = user;
-        self.entries[at + 1] = role;
+        self.entries[at] = entry.user;
+        self.entries[at + 1] = entry.role;
         self.count += 1;
     }
 
@@ -116,7 +120,10 @@ impl Sheet {
         let mut left = Sheet::unsigned(self.permission);
         for entry in self.held().chunks_exact(2) {
             if u32::from(entry[0]) != user {
-                left.add(entry[0], entry[1]);
+                left.add(Entry {
+                    user: entry[0],
+                    role: entry[1],
+                });
             }
         }
         left

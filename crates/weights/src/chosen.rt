@@ -25,13 +25,9 @@ impl Chosen {
     {
         let mut w = inherited::own_weights(&self.own, permission);
         // Each junior adds to the weights of its seniors.
-        for j in 0..8u8 {
-            inherited::hand_on(
-                &mut w,
-                juniors,
-                j,
-                self.inh[policies::place_of(permission, j)],
-            );
+        let at = policies::place_of(permission, 0);
+        for (j, x) in self.inh[at..at + 8].iter().enumerate() {
+            inherited::hand_on(&mut w, juniors, j as u8, *x);
         }
         w
     }

@@ -6,18 +6,20 @@ ghost use Rattle.weights.specs.Contexts.{out_of_range, value_of, context_clause_
 ghost use Rattle.weights.specs.Setting.{Holding};
 
 use crate::{Context, operators, sets};
-use reader::conditions;
 use reader::contexts::ContextCondition;
+use reader::{RANGES, conditions};
 
 // Inner: refusal 11.
 #[tactic(auto, unfolding(crate::specs::Contexts::out_of_range))]
 pub fn out_of_range(at: Context) -> bool
     ensures { result ≡ out_of_range at }
 {
-    (1440 <= at.minute) | (7 <= at.day) | (256 <= at.zone)
+    (u32::from(RANGES[0]) <= at.minute)
+        | (u32::from(RANGES[1]) <= at.day)
+        | (u32::from(RANGES[2]) <= at.zone)
 }
 
-// By the parameter's byte, of which the check has made sure.
+// By the parameter's byte, any of 256 where it is read: an enum would put three arms in front of these.
 #[tactic(auto, unfolding(crate::specs::Contexts::value_of))]
 fn value_of(at: Context, parameter: u8) -> u32
     ensures { result ≡ value_of at parameter }

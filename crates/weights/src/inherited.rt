@@ -20,9 +20,8 @@ pub fn hand_on(w: &mut [u8; 8], juniors: [u8; 8], j: u8, x: u8)
     if x == 0 {
         return;
     }
-    // By index: `iter_mut().zip(..)` was tried, and the proof didn't close.
-    for r in 0..8usize {
-        w[r] += share(juniors[r], j, x);
+    for (r, weight) in w.iter_mut().enumerate() {
+        *weight += share(juniors[r], j, x);
     }
 }
 

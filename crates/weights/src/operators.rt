@@ -36,7 +36,8 @@ fn from_to(low: usize, end: usize) -> Range
     }
 }
 
-// Inner: the numbers below 256 that stand to the value v as the operator says, one of 0 to 5.
+// Inner: the numbers below 256 that stand to the value v as the operator says, one of 0 to 5. By the operator's number,
+// as `is_met`; single numbers, since each has a range of its own.
 pub fn range_of(operator: u8, v: u8) -> Range
     ensures { RangeOf operator v result.low result.end (unwrap_or result.but 256) }
 {

@@ -16,8 +16,7 @@ pub fn with_juniors(j: u8, known: [u8; 8]) -> u8
     sets::role_bit(j) | known[j as usize]
 }
 
-// The juniors of role s, from the known juniors of the roles with higher numbers. One closure: with a `filter` in front
-// 28 records take half as many instructions again.
+// The juniors of role s, from the known juniors of the roles with higher numbers.
 fn juniors_of(h: &[u8], s: u8, known: [u8; 8]) -> u8
     requires { hierarchy_bad 8 h.now ≡ false }
     ensures { (j : ℕ) → in_set result j ≡ any_below (length h.now / 2) (next_junior h.now known s j) }

@@ -1,5 +1,5 @@
 -- `bound` meets its contract: the chain of refusals, then the bound by the table A and the juniors.
-use Rattle.std.proofs.Common.{ℕ, Bool, true, false, List, length, ◌≡◌, ◌<◌, ◌≤◌, ◌*◌, arith}
+use Rattle.std.proofs.Common.{ℕ, Bool, true, false, List, ◌≡◌, ◌≤◌, ◌*◌, arith}
 use mathlib.Core.Bool.{cond}
 use Rattle.std.specs.Prelude.{Err}
 use mathlib.Core.Path.{ap, sym, ◌∙◌}
@@ -7,19 +7,16 @@ use native.Mathlib.Nat.{suc-ne-zero}
 use borrow.Author.Tests.{ltb-false}
 use lib.Dec.{ltb}
 use Rattle.folds.proofs.Bools.{refused, unrefused, or_right}
-use Rattle.reader.specs.Tables.{hierarchy, policies, role_count, user_count, table_of, record_count, policy_count}
+use Rattle.reader.specs.Tables.{hierarchy, policies, table_of, record_count, policy_count}
 use Rattle.reader.specs.Fields.{policy_role, policy_weight}
 use Rattle.reader.specs.Rules.{refusal_of}
-use Rattle.reader.proofs.Frame.{roles_range}
-use Rattle.reader.proofs.Accepted.{accepted_frame}
 use Rattle.reader.specs.declared.refusal.Refusal.TheVariants.{Change}
 use Rattle.reader.proofs.Results.{refusal_pos, carried_on}
 use Rattle.reader.proofs.Answered.{answered_refused, answered_done_lem}
-use Rattle.weights.specs.Acting.{may_act}
 use Rattle.weights.specs.Setting.{Juniors}
-use Rattle.decision.specs.Groups.{entry_count, entry_role}
 use Rattle.decision.specs.Decision.{members_of}
-use Rattle.decision.proofs.Granting.{Members, members_of_lem, members_same, short_enough, role_below}
+use Rattle.decision.specs.Members.{Seated}
+use Rattle.decision.proofs.Granting.{members_same}
 use Rattle.shift.specs.Counting.{entries_at_or_above}
 use Rattle.shift.specs.Shift.{distance, bound_of, change_refused, bound_refusal}
 use Rattle.shift.proofs.Laws.{touched_by, change_allowed}
@@ -29,20 +26,9 @@ use Rattle.shift.proofs.bound.Goals as goal
 record Known (b g : List ℕ) : Type 0 where
   ok : refusal_of b ≡ 0
   none : members_of b g ≡ 0
-  few : length g ≤ 12
-  low : (k : ℕ) → k < entry_count g → entry_role g k < 8
 
 known : {a b g : List ℕ} → 0 ≡ refusal_of b → a ≡ b → 0 ≡ members_of a g → Known b g
-known {b = b} {g = g} checked same fine =
-    let ok = sym checked in
-    let none = sym (members_same g same fine) in
-    let m : Members (user_count b) (role_count b) (may_act b) g = members_of_lem _ _ _ g none in
-    record {
-      ok = ok;
-      none = none;
-      few = short_enough g m.whole;
-      low = role_below _ _ g m.known (roles_range b (accepted_frame _ ok)).1;
-    }
+known {g = g} checked same fine = record { ok = sym checked; none = sym (members_same g same fine) }
 
 -- the refusals, in the order of the chain
 module _ (b : List ℕ) (i w : ℕ) (g : List ℕ) where
@@ -74,11 +60,13 @@ by_count d i w e h = rw (← e) (sym h)
 small : (n i w : ℕ) → change_refused n i w ≡ false → w ≤ 5
 small n i w e = ltb-false _ _ (or_right (ltb w 1) _ (change_allowed n i w e).1)
 
-bound_by : (b juniors a : List ℕ) (i w : ℕ) (g : List ℕ) {k : ℕ} → a ≡ table_of b policies →
-    Juniors (table_of b hierarchy) juniors → ((n : ℕ) → n < entry_count g → entry_role g n < 8) →
-    k ≡ distance (policy_weight a i) w * entries_at_or_above juniors (policy_role a i) g → k ≡ bound_of b i w g
+bound_by : (b juniors a : List ℕ) (i w : ℕ) (g : List ℕ) {k : ℕ} {m : List ℕ} → a ≡ table_of b policies →
+    Juniors (table_of b hierarchy) juniors → m ≡ g → Seated m →
+    k ≡ distance (policy_weight a i) w * entries_at_or_above juniors (policy_role a i) m → k ≡ bound_of b i w g
 unfolding bound_of
-bound_by b juniors a i w g e are low h = rw (e, touched_by b juniors are i g low) at h
+bound_by b juniors a i w g e are same seated h =
+    let s : Seated g = rw same at seated in
+    rw (same, e, touched_by b juniors are i g s.low) at h
 
 pub returns-in_err-base : goal.returns-in_err-base
 returns-in_err-base c =
@@ -121,4 +109,4 @@ returns c =
     let good = by_count table_a c.args.policy c.args.weight count c.if-change_refused.ensures in
     answered_done_lem _ _ (by_none _ _ _ _ k good)
     (bound_by _ _ _ c.args.policy c.args.weight c.args.group.now table (rw same at c.juniors.ensures)
-    k.low (rw c.in_ok-members.ensures.same at c.bound_of.ensures))
+    c.in_ok-members.ensures.same c.in_ok-members.ensures.seated c.bound_of.ensures)

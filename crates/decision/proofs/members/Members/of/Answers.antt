@@ -1,10 +1,11 @@
 -- A chain of four refusals; a group that passes them has at most six entries, in roles below 8.
-use Rattle.std.proofs.Common.{ℕ, Bool, true, false, List, ◌≡◌}
+use Rattle.std.proofs.Common.{ℕ, ◌≤◌, Bool, true, false, List, ◌≡◌}
 use mathlib.Core.Path.{sym, ◌∙◌}
 use Rattle.reader.specs.Tables.{role_count, user_count}
 use Rattle.weights.specs.Acting.{may_act}
 use Rattle.decision.specs.Groups.{length_refused, some_unknown, some_twice, some_ineligible, members_refusal}
 use Rattle.decision.specs.Decision.{members_of}
+use Rattle.decision.specs.Members.{Seated}
 use Rattle.decision.proofs.Granting.{unknown_same, short_enough, role_below}
 use Rattle.decision.proofs.members.Members.of.Goals as goal
 
@@ -36,6 +37,10 @@ module _ (b g : List ℕ) where
       unfolding members_refusal
       by_none once e = rw (whole, known, once, e)
 
+-- what the group is where neither 12 nor 13 applies
+seated : (U R : ℕ) {g : List ℕ} → length_refused g ≡ false → some_unknown U R g ≡ false → R ≤ 8 → Seated g
+seated U R whole known small = record { few = short_enough _ whole; low = role_below U R _ known small }
+
 pub returns-then-length_refused-clause-number : goal.returns-then-length_refused-clause-number
 returns-then-length_refused-clause-number c = by_12 c.args.acting.now c.args.group.now (sym c.if-length_refused.ensures)
 
@@ -58,10 +63,11 @@ returns-then-some_ineligible-clause-number c =
 
 pub invariant_of-result : goal.invariant_of-result
 invariant_of-result c =
-    record {
-      few = short_enough _ (sym c.if-length_refused.ensures);
-      low = role_below _ _ _ (sym c.if-some_unknown.ensures) c.role_count.ensures.1;
-    }
+    seated _ _ (sym c.if-length_refused.ensures) (sym c.if-some_unknown.ensures) c.role_count.ensures.1
+
+pub returns-clause-seated : goal.returns-clause-seated
+returns-clause-seated c =
+    seated _ _ (sym c.if-length_refused.ensures) (sym c.if-some_unknown.ensures) c.role_count.ensures.1
 
 pub returns-clause-number : goal.returns-clause-number
 returns-clause-number c =

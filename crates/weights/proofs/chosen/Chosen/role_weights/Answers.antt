@@ -1,7 +1,9 @@
 -- A turn is argued of plain values.
 use mathlib.Core.Path.{ap₂}
 use native.Mathlib.Nat.{add-zero, add_assoc}
-use Rattle.std.proofs.Common.{◌≡◌, ℕ, ◌+◌, ◌*◌, ◌<◌, ◌≤◌, List, length, get_or, ap, ◌∙◌, arith}
+use borrow.Rule.Slice.PartMut.{mid_of}
+use Rattle.std.proofs.Common.{◌≡◌, ℕ, ◌+◌, ◌*◌, ◌-◌, ◌<◌, ◌≤◌, List, length, get_or, drop, ap, refl, ◌∙◌, arith}
+use Rattle.std.proofs.lemmas.List.{get_or-take, get_or-drop}
 use Rattle.folds.specs.Below.{sum_below}
 use Rattle.folds.specs.Sets.{in_set}
 use Rattle.folds.proofs.Numbers.{sum_none, sum_more, sum_le}
@@ -41,9 +43,11 @@ module _ {owns inhs juniors w : List ℕ} {p j x : ℕ} (sum : Summed owns inhs 
           ∙ rw (sum_more (share inhs juniors p r) j)
           (add_assoc (get_or owns (8 * p + r) 0) (sum_below j (share inhs juniors p r)) (share inhs juniors p r j))
 
--- what stands at a place
-at_place : (inhs : List ℕ) {i k : ℕ} → i ≡ k → get_or inhs i 0 ≡ get_or inhs k 0
-at_place inhs e = rw e
+-- what stands at a place of the permission's part
+at_place : (inhs : List ℕ) (p : ℕ) {at j : ℕ} → at ≡ 8 * p + 0 → j < 8 →
+    get_or (mid_of at (at + 8 - at) inhs) j 0 ≡ get_or inhs (8 * p + j) 0
+at_place inhs p {at} {j} e l =
+    get_or-take (at + 8 - at) (drop at inhs) j 0 (omega arith) ∙ get_or-drop at inhs j 0 ∙ rw (e, add-zero) refl
 
 pub loop-j-init : goal.loop-j-init
 loop-j-init c =
@@ -55,12 +59,14 @@ hand_on-requires c =
     let (own_light, inh_light) = c.args.self.now.light in
     let sum = c.loop-j.invariant in
     let l : c.loop-j.j < 8 = omega arith in
-    (sum.size, l, room sum l c.requires (at_place c.args.self.now.inh c.place_of.ensures.0) own_light inh_light)
+    let is = at_place c.args.self.now.inh c.args.permission c.place_of-at.ensures.0 l in
+    (sum.size, l, room sum l c.requires is own_light inh_light)
 
 pub loop-j-preserved : goal.loop-j-preserved
 loop-j-preserved c =
-    again c.loop-j.invariant (omega arith) c.requires (at_place c.args.self.now.inh c.place_of.ensures.0)
-    c.hand_on.ensures
+    let l : c.loop-j.j < 8 = omega arith in
+    again c.loop-j.invariant l c.requires
+    (at_place c.args.self.now.inh c.args.permission c.place_of-at.ensures.0 l) c.hand_on.ensures
 
 pub returns : goal.returns
 returns c rules b at ok chosen below =
