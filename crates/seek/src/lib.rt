@@ -80,14 +80,14 @@ impl Level<'_> {
         requires { Roomy end self.now × (from ≤ end) × (end ≤ 3003) }
         ensures { FoundAt (meets self.now) from end result }
     {
-        let rest = end - (end - from) % 8;
+        let eights = (end - from) / 8;
         // No `find_map`: of the rest, called by `or_else` behind it, a proof knows nothing.
-        for x in (from..rest).step_by(8) {
-            if let Some(found) = self.meeting_in_eight(x) {
+        for i in 0..eights {
+            if let Some(found) = self.meeting_in_eight(from + 8 * i) {
                 return Some(found);
             }
         }
-        self.meeting_in(rest, end)
+        self.meeting_in(from + 8 * eights, end)
     }
 }
 
