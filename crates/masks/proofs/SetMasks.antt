@@ -56,11 +56,6 @@ module _ (own : ℕ) (roles : List ℕ) (start end : ℕ) where
         (get_or roles r 0) b refl);
   }
 
--- the mask that a set without role r has left
-pub without_at : {own start r at : ℕ} {roles without : List ℕ} → Without own roles start without → at ≡ r → r < 8
-    → get_or without at 0 ≡ cond (in_set start r) own (get_or roles r 0)
-without_at h e l = rw e (h.each _ l)
-
 -- all roles from `end` on
 pub reached_all : {own start end at reached : ℕ} {roles without : List ℕ} → Without own roles start without → end ≤ 8
     → at ≡ end → reached ≡ fold (λ reached mask. bit_and reached mask) own (between at 8 without)
@@ -89,14 +84,14 @@ pub half_is : {half n without with : ℕ} {was masks : List ℕ} → half ≡ n 
     → Doubled n without with was masks
 half_is e d = rw e at d
 
--- the clauses left with role n: all if it has weight, else none
-pub with_weight : (w : List ℕ) (own : ℕ) {q n with : ℕ} → q ≡ n → 0 < get_or w q 0 → with ≡ own
+-- the clauses left with role n, whose weight is x: all if it has weight, else none
+pub with_weight : (w : List ℕ) (n own : ℕ) {x with : ℕ} → x ≡ get_or w n 0 → 0 < x → with ≡ own
     → with ≡ cond (ltb 0 (get_or w n 0)) own 0
-with_weight w own e h i = rw (i, lt-ltb 0 (get_or w _ 0) (rw e at h))
+with_weight w n own {x} e h i = rw (i, ← e, lt-ltb 0 x h)
 
-pub with_none : (w : List ℕ) (own : ℕ) {q n with : ℕ} → q ≡ n → get_or w q 0 ≤ 0 → with ≡ 0
+pub with_none : (w : List ℕ) (n own : ℕ) {x with : ℕ} → x ≡ get_or w n 0 → x ≤ 0 → with ≡ 0
     → with ≡ cond (ltb 0 (get_or w n 0)) own 0
-with_none w own e h i = rw (i, le-ltb 0 (get_or w _ 0) (rw e at h))
+with_none w n own {x} e h i = rw (i, ← e, le-ltb 0 x h)
 
 -- a set with the next role
 with_next : (n u r : ℕ) → u < 2 ^ n → in_set (2 ^ n + u) r ≡ (in_set u r || eqb n r)

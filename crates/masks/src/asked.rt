@@ -38,7 +38,7 @@ impl Asked {
             operator,
             value,
         } = k.condition(i, j);
-        // by the attribute's byte, of which the check has made sure
+        // by the attribute's byte, any of 256 where it is read: an enum would put four arms in front of these
         match attribute {
             0 => strike_unmet(&mut self.entries, operator, value, others),
             1 => strike_unmet(sums, operator, value, others),

@@ -70,10 +70,10 @@ fn mark_sets(own: u64, without: &[u64; 8], w: [u8; 8], end: u8, sets: &mut [u64;
         SetsMarked own roles w start end sets.new }
 {
     sets[0] = within_reach(own, without, end);
-    // by number: each role doubles the sets made so far
-    for r in 0..end {
-        let with = if w[bytes::wide(r)] > 0 { own } else { 0 };
-        add_role(sets, sets_below(r), without[bytes::wide(r)], with);
+    // each role doubles the sets made so far
+    for (r, weight) in w[..bytes::wide(end)].iter().enumerate() {
+        let with = if *weight > 0 { own } else { 0 };
+        add_role(sets, sets_below(r as u8), without[r], with);
     }
 }
 
