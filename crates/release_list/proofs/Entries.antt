@@ -9,7 +9,7 @@ use Rattle.folds.proofs.Lists.{join_first, join_same}
 use Rattle.decision.specs.Groups.{entry_count, entry_user, entry_role}
 use Rattle.release_list.specs.Text.{entry_at, entry_text}
 use Rattle.release_list.specs.Writing.{Written, standing_text}
-use Rattle.release_list.proofs.Stores.{joined, same_size}
+use Rattle.release_list.proofs.Stores.{joined, room_behind}
 
 -- an entry, and those behind it
 module _ (u r : ℕ) (l : List ℕ) where
@@ -67,7 +67,7 @@ module _ {g l m rest : List ℕ} {at next : ℕ} (yet : EntriesYet g l at m next
     pub next_room : at + length (standing_text g) ≤ length l → next + length text ≤ length m
     next_room fits =
         let all = ap length (sym step) ∙ length-append yet.done (text ++ standing_text after) in
-        omega (arith, fits, all, length-append text (standing_text after), yet.put.place, same_size yet.put)
+        room_behind _ yet.put (omega (arith, fits, all, length-append text (standing_text after)))
 
     pub one_put : {k : List ℕ} {behind : ℕ} → Written text m next behind k → EntriesYet g l at k behind after
     one_put w =

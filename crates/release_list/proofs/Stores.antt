@@ -47,8 +47,13 @@ module _ {l m k : List ℕ} {at next behind : ℕ} where
   entry_written user role a b = joined a b
 
 -- what a text is written into keeps its length
-pub same_size : {xs l m : List ℕ} {at next : ℕ} → Written xs l at next m → length m ≡ length l
+same_size : {xs l m : List ℕ} {at next : ℕ} → Written xs l at next m → length m ≡ length l
 same_size {xs} {l} {at = at} w = ap length w.bytes ∙ length-sets l at xs
+
+-- where n bytes more than a text's have room, they have it behind the text
+pub room_behind : (n : ℕ) {xs l m : List ℕ} {at next : ℕ} → Written xs l at next m →
+    at + (length xs + n) ≤ length l → next + n ≤ length m
+room_behind n w fits = omega (arith, fits, w.place, same_size w)
 
 module _ (f : ℕ → List ℕ) where
   -- no text yet
@@ -78,7 +83,7 @@ begun_none f n l at = record { within = zero-le; written = none_written f l at }
 module _ {f : ℕ → List ℕ} {n : ℕ} {l m : List ℕ} {at next i : ℕ} (b : Begun f n l at m next i) where
   -- where all have room, so has the next one
   pub next_fits : i < n → at + length (join_below n f) ≤ length l → next + length (f i) ≤ length m
-  next_fits h fits = omega (arith, b.written.place, same_size b.written, room_more f i n h)
+  next_fits h fits = room_behind _ b.written (omega (arith, fits, room_more f i n h))
 
   pub begun_more : i < n → {k : List ℕ} {behind : ℕ} → Written (f i) m next behind k → Begun f n l at k behind (i + 1)
   begun_more h w = record { within = omega arith; written = more_written f i b.written w }

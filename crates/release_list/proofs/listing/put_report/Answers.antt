@@ -6,7 +6,7 @@ use Rattle.reader.specs.Tables.{permissions, permission_count, record_count, tab
 use Rattle.release_list.specs.Text.{ascii}
 use Rattle.release_list.specs.Writing.{Written, Parts, lines_text}
 use Rattle.release_list.proofs.Answered.{count_short, Ready, report_ready, refused_listed, done_listed}
-use Rattle.release_list.proofs.Stores.{same_size}
+use Rattle.release_list.proofs.Stores.{room_behind}
 use Rattle.release_list.proofs.listing.put_report.Goals as goal
 
 -- the lines for the permissions of a table that is the base's, put on a page that held no text
@@ -43,7 +43,7 @@ put_count-requires c =
     let ready = report_ready _ _ _ _ _ refl c.in-Ok.ensures.promise refl (omega arith) in
     let lines = c.put_lines.ensures.written in
     let w = lines_written c.args.base.now c.report.new.out c.table.ensures c.requires.0 lines in
-    omega (arith, w.place, ready.lines, ready.last, c.requires.1, same_size w)
+    room_behind _ w (omega (arith, ready.lines, ready.last, c.requires.1))
 
 pub returns-in-Ok-clause-text : goal.returns-in-Ok-clause-text
 returns-in-Ok-clause-text c =

@@ -1,7 +1,7 @@
 -- A slash and the role are put behind a blank and the user.
 use Rattle.std.proofs.Common.{arith, ◌∙◌}
 use Rattle.release_list.proofs.Sizes.{entry_length}
-use Rattle.release_list.proofs.Stores.{entry_written, same_size}
+use Rattle.release_list.proofs.Stores.{entry_written, room_behind}
 use Rattle.release_list.proofs.text.Page.put_entry.Goals as goal
 
 pub put_number-requires : goal.put_number-requires
@@ -9,8 +9,8 @@ put_number-requires c = omega (arith, c.requires, entry_length c.args.user c.arg
 
 pub put_number-requires-2 : goal.put_number-requires-2
 put_number-requires-2 c =
-    let now = c.put_number.ensures.written in
-    omega (arith, c.requires, entry_length c.args.user c.args.role, now.place, same_size now)
+    let long = entry_length c.args.user c.args.role in
+    room_behind _ c.put_number.ensures.written (omega (arith, c.requires, long))
 
 pub returns : goal.returns
 returns c =

@@ -1,7 +1,7 @@
 -- Its four texts are put one behind the other, and the entries, whose users rise, in the order in which they stand.
 use Rattle.std.proofs.Common.{arith, ◌∙◌}
 use Rattle.release_list.proofs.Order.{line_room, line_written}
-use Rattle.release_list.proofs.Stores.{same_size}
+use Rattle.release_list.proofs.Stores.{room_behind}
 use Rattle.release_list.proofs.text.Page.put_line.Goals as goal
 
 pub put_number-requires : goal.put_number-requires
@@ -14,27 +14,25 @@ pub put_number-requires-2 : goal.put_number-requires-2
 put_number-requires-2 c =
     let a = c.args in
     let (rise, fits) = c.requires in
-    let now = c.put_number.ensures.written in
-    omega (arith, fits, line_room a.p a.k a.group.now rise (λ i. (c.type_inv.group i).fits), now.place, same_size now)
+    let all = line_room a.p a.k a.group.now rise (λ i. (c.type_inv.group i).fits) in
+    room_behind _ c.put_number.ensures.written (omega (arith, fits, all))
 
 pub put_entries-requires : goal.put_entries-requires
 put_entries-requires c =
     let a = c.args in
     let (rise, fits) = c.requires in
-    let one = c.put_number.ensures.written in
-    let two = c.put_number-2.ensures.written in
     let all = line_room a.p a.k a.group.now rise (λ i. (c.type_inv.group i).fits) in
-    omega (arith, fits, all, one.place, same_size one, two.place, same_size two)
+    room_behind _ c.put_number-2.ensures.written
+    (room_behind _ c.put_number.ensures.written (omega (arith, fits, all)))
 
 pub put-requires : goal.put-requires
 put-requires c =
     let a = c.args in
     let (rise, fits) = c.requires in
-    let one = c.put_number.ensures.written in
-    let two = c.put_number-2.ensures.written in
-    let three = c.put_entries.ensures.written in
     let all = line_room a.p a.k a.group.now rise (λ i. (c.type_inv.group i).fits) in
-    omega (arith, fits, all, one.place, same_size one, two.place, same_size two, three.place, same_size three)
+    room_behind _ c.put_entries.ensures.written
+    (room_behind _ c.put_number-2.ensures.written
+    (room_behind _ c.put_number.ensures.written (omega (arith, fits, all))))
 
 pub returns : goal.returns
 returns c =
