@@ -2,6 +2,8 @@
 use Rattle.std.specs.Prelude.{ℕ, suc, ◌+◌, ◌*◌, ◌<◌, ◌≤◌, ◌≡◌, List, length, get_or}
 use Rattle.multisets.specs.Ranks.{starts, first, more}
 use Rattle.multisets.specs.declared.Weighing.{Weighing}
+use Rattle.multisets.specs.declared.ends.Users.{Users}
+use Rattle.multisets.specs.declared.growth.Reached.{Reached}
 use Rattle.multisets.specs.Values.{Held, sum_at, set_at}
 use Rattle.multisets.specs.Ends.{Filled}
 
@@ -31,6 +33,10 @@ pub record Kept (r : ℕ) (a : List ℕ) : Type 0 where
 pub record Grown (d : ℕ) (nexts : List ℕ) (k : ℕ) (t ends from : List ℕ) : Type 0 where
   pub rows : Rows d k t
   pub filled : Filled d nexts (8 * k) ends from
+
+-- this of what is reached, for these users
+abbrev pub GrownTo : {rows places : ℕ} → Users → ℕ → Reached rows places → Type 0
+GrownTo users k reached = Grown users.d users.nexts k reached.rows reached.ends reached.from
 
 -- what a multiset needs to lead on: it is multiset m of n, at place i, and m lies at `next` among those of a role more
 pub record Pushing (d : ℕ) (nexts up : List ℕ) (i next : ℕ) (ends from : List ℕ) : Type 0 where

@@ -3,7 +3,7 @@ ghost use Rattle.std.specs.Prelude.{◌≡◌, ℕ, suc, ◌+◌, ◌*◌, ◌�
 ghost use Rattle.multisets.specs.Ranks.{starts, first};
 ghost use Rattle.multisets.specs.Values.{Written};
 ghost use Rattle.multisets.specs.Ends.{Filled, Relaxed};
-ghost use Rattle.multisets.specs.Levels.{Fixed, Kept, Grown, Pushing};
+ghost use Rattle.multisets.specs.Levels.{Fixed, Kept, GrownTo, Pushing};
 
 use crate::ends::Users;
 use crate::ranks::{first_in, start_in};
@@ -91,13 +91,13 @@ impl<const ROWS: usize, const PLACES: usize> Reached<ROWS, PLACES> {
         }
     }
 
-    // Multisets of n + 1 roles whose largest is r: their rows, and what they lead to.
+    // Multisets of n + 1 roles whose largest is r: their rows, and what they lead to. Kept out of line: taken in, the
+    // compiler makes the rows number by number.
+    #[inline(never)]
     fn block(&mut self, users: &Users, n: usize, r: usize)
         requires { (n ≤ 4) × (users.now.d ≤ 8) × (r < users.now.d)
-            × Grown users.now.d users.now.nexts (first users.now.d (suc n) + starts (suc n) r)
-            self.old.rows self.old.ends self.old.from }
-        ensures { Grown users.now.d users.now.nexts (first users.now.d (suc n) + starts (suc n) (suc r))
-            self.new.rows self.new.ends self.new.from }
+            × GrownTo users.now (first users.now.d (suc n) + starts (suc n) r) self.old }
+        ensures { GrownTo users.now (first users.now.d (suc n) + starts (suc n) (suc r)) self.new }
     {
         let less = first_in(users.d, n);
         let here = first_in(users.d, n + 1) + start_in(n + 1, r);
@@ -114,10 +114,8 @@ impl<const ROWS: usize, const PLACES: usize> Reached<ROWS, PLACES> {
 
     // From the multisets of n + 1 roles.
     fn level(&mut self, users: &Users, n: usize)
-        requires { (n ≤ 4) × (users.now.d ≤ 8)
-            × Grown users.now.d users.now.nexts (first users.now.d (suc n)) self.old.rows self.old.ends self.old.from }
-        ensures { Grown users.now.d users.now.nexts (first users.now.d (suc (suc n)))
-            self.new.rows self.new.ends self.new.from }
+        requires { (n ≤ 4) × (users.now.d ≤ 8) × GrownTo users.now (first users.now.d (suc n)) self.old }
+        ensures { GrownTo users.now (first users.now.d (suc (suc n))) self.new }
     {
         // A role is a number here, and each block changes the tables.
         for r in 0..users.d {
@@ -127,9 +125,8 @@ impl<const ROWS: usize, const PLACES: usize> Reached<ROWS, PLACES> {
 
     // From the empty multiset.
     fn none(&mut self, users: &Users)
-        requires { (users.now.d ≤ 8)
-            × Grown users.now.d users.now.nexts (first users.now.d 0) self.old.rows self.old.ends self.old.from }
-        ensures { Grown users.now.d users.now.nexts (first users.now.d 1) self.new.rows self.new.ends self.new.from }
+        requires { (users.now.d ≤ 8) × GrownTo users.now (first users.now.d 0) self.old }
+        ensures { GrownTo users.now (first users.now.d 1) self.new }
     {
         let up = [0u16, 1, 2, 3, 4, 5, 6, 7];
         keep_row(&mut self.rows, 0, 0, &up);
@@ -138,10 +135,8 @@ impl<const ROWS: usize, const PLACES: usize> Reached<ROWS, PLACES> {
 
     // Inner: the least ends of the multisets of n + 1 roles, from those of n.
     pub fn grow(&mut self, users: &Users, n: usize)
-        requires { (n ≤ 5) × (users.now.d ≤ 8)
-            × Grown users.now.d users.now.nexts (first users.now.d n) self.old.rows self.old.ends self.old.from }
-        ensures { Grown users.now.d users.now.nexts (first users.now.d (suc n))
-            self.new.rows self.new.ends self.new.from }
+        requires { (n ≤ 5) × (users.now.d ≤ 8) × GrownTo users.now (first users.now.d n) self.old }
+        ensures { GrownTo users.now (first users.now.d (suc n)) self.new }
     {
         if n == 0 {
             self.none(users);

@@ -10,7 +10,7 @@ use crate::{Weighing, values};
 
 // Inner: what is known of the multisets of at most six roles below d, for users by their next ends, up to the level of
 // `known` roles; the sums are those of the search under way. With room for ROWS numbers of rows, and for PLACES
-// multisets.
+// multisets. The arrays stand side by side: the search reads eight places of one at a time, and nothing is allocated.
 #[derive(Drop)]
 pub struct LevelTables<const ROWS: usize, const PLACES: usize> {
     pub users: Users,
@@ -18,7 +18,8 @@ pub struct LevelTables<const ROWS: usize, const PLACES: usize> {
     pub reached: Reached<ROWS, PLACES>,
     pub roles: [u8; PLACES],
     pub sums: [u8; PLACES],
-    pub ghost laid: { Laid users.d known users.nexts reached.rows reached.ends reached.from roles sums } by { Laid-prop },
+    pub ghost laid: { Laid users.d known users.nexts reached.rows reached.ends reached.from
+        roles sums } by { Laid-prop },
 }
 
 impl<const ROWS: usize, const PLACES: usize> LevelTables<ROWS, PLACES> {

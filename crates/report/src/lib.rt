@@ -27,6 +27,7 @@ pub fn report(base: &[u8], at: Context, out: &mut [u8]) -> Result<u32, Refused>
 }
 
 // Entry point: the same by a resolution list, of the decision that `decide_by` gives with that list; 22 comes after 9.
+// Two entry points, for they differ in which refusals come first; what follows is `parts::fill`.
 pub fn report_by(base: &[u8], at: Context, list: &[u8], out: &mut [u8]) -> Result<u32, Refused>
     ensures promise { ReportedLent list.now base.now at out.old out.new (answer_from result) }
     ensures demand { DemandedLent list.now base.now at out.old out.new (answer_from result) }

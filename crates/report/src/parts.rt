@@ -67,8 +67,8 @@ fn part_for<const ROWS: usize, const PLACES: usize>(
     tables: &mut LevelTables<ROWS, PLACES>,
     masks: &mut Masks,
 ) -> [u8; 13]
-    requires { GroundsOf base.now s.now × UsersOf base.now tables.old.users.nexts × (tables.old.users.d ≡ role_count base.now)
-        × (permission < permission_count base.now) }
+    requires { GroundsOf base.now s.now × UsersOf base.now tables.old.users.nexts
+        × (tables.old.users.d ≡ role_count base.now) × (permission < permission_count base.now) }
     ensures { PartFor (decided base.now s.now.fixed) permission result
         × (tables.new.users ≡ tables.old.users) }
 {

@@ -126,7 +126,8 @@ fn try_level<const ROWS: usize, const PLACES: usize>(
     level.meeting(first, last)
 }
 
-// A number of entries, and their twelve bytes.
+// A number of entries, and their twelve bytes as the report writes them: an array of fixed length, for nothing is
+// allocated.
 #[derive(Clone, Copy)]
 pub struct Found {
     pub n: usize,

@@ -70,18 +70,21 @@ fill_in-requires c =
     let p = c.requires in
     let few : role_count c.args.base.now ≤ 3 = omega (arith, c.role_count.ensures.0) in
     let (rows, places) = room_for_3 few in
-    (c.grounds_of-s.ensures.1, users_of c.acting_sets.ensures c.next_ends-nexts.ensures, rows, places, omega arith, omega arith, p.1)
+    let users = users_of c.acting_sets.ensures c.next_ends-nexts.ensures in
+    (c.grounds_of-s.ensures.1, users, rows, places, omega arith, omega arith, p.1)
 
 pub fill_in-requires-in-4 : goal.fill_in-requires-in-4
 fill_in-requires-in-4 c =
     let p = c.requires in
     let few : role_count c.args.base.now ≤ 5 = omega (arith, c.role_count.ensures.0) in
     let (rows, places) = room_for_5 few in
-    (c.grounds_of-s.ensures.1, users_of c.acting_sets.ensures c.next_ends-nexts.ensures, rows, places, omega arith, omega arith, p.1)
+    let users = users_of c.acting_sets.ensures c.next_ends-nexts.ensures in
+    (c.grounds_of-s.ensures.1, users, rows, places, omega arith, omega arith, p.1)
 
 pub fill_in-requires-in_default : goal.fill_in-requires-in_default
 fill_in-requires-in_default c =
     let p = c.requires in
     let few : role_count c.args.base.now ≤ 8 = omega (arith, c.role_count.ensures) in
     let (rows, places) = room_for_8 few in
-    (c.grounds_of-s.ensures.1, users_of c.acting_sets.ensures c.next_ends-nexts.ensures, rows, places, omega arith, omega arith, p.1)
+    let users = users_of c.acting_sets.ensures c.next_ends-nexts.ensures in
+    (c.grounds_of-s.ensures.1, users, rows, places, omega arith, omega arith, p.1)

@@ -1,6 +1,7 @@
 -- `fill_in` meets its contract: permission by permission, the parts so far stand and the count is that of those with a
 -- group.
-use Rattle.std.proofs.Common.{ℕ, ◌+◌, ◌-◌, ◌*◌, ◌≤◌, List, ◌≡◌, length, sym, ap, ◌∙◌, ltb, Bool, true, false, arith, rules}
+use Rattle.std.proofs.Common.{ℕ, ◌+◌, ◌-◌, ◌*◌, ◌≤◌, List, ◌≡◌, length, sym, ap, ◌∙◌}
+use Rattle.std.proofs.Common.{ltb, Bool, true, false, arith, rules}
 use Rattle.std.specs.Int.{from_bool}
 use borrow.Rule.Slice.PartMut.{put_mid}
 use Rattle.folds.specs.Below.{count_below}
