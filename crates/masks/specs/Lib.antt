@@ -3,3 +3,4 @@ pub mod Clauses
 pub mod Masks
 pub mod Rows
 pub mod Sets
+pub mod Striking

@@ -15,23 +15,25 @@ pub struct Asked {
     ghost room: { Room entries numbers roles },
 }
 
-impl Asked {
+// What is asked and the caller's masks of the sums, while clauses are struck out of both.
+#[derive(Drop)]
+pub(crate) struct Striking<'a> {
+    pub asked: Asked,
+    pub sums: &'a mut [u64],
+}
+
+impl Striking<'_> {
     ghost use Rattle.std.specs.Prelude.{◌≡◌, ◌^◌, ◌≤◌, ◌<◌, length};
     ghost use Rattle.reader.specs.Tables.{clauses, record_count};
     ghost use Rattle.reader.specs.Fields.{clause_length};
-    ghost use Rattle.masks.specs.Clauses.{met_at, met, StruckAll, NarrowedAll};
+    ghost use Rattle.masks.specs.Clauses.{met_at, met, NarrowedAll};
+    ghost use Rattle.masks.specs.Striking.{StruckOut, AllStruck};
 
     // Leaves only `others` in the masks of what condition j of clause i is on, where it isn't met.
-    fn strike_condition(
-        &mut self,
-        sums: &mut [u64],
-        k: &GroupClauses<'_>,
-        i: usize,
-        j: usize,
-        others: u64,
-    )
-        requires { (i < record_count clauses k.now) × (j < clause_length k.now i) × (length sums.old ≤ 256) }
-        ensures { StruckAll (length sums.old) (met_at k.now i j) others self.old sums.old self.new sums.new }
+    fn strike_condition(&mut self, k: &GroupClauses<'_>, i: usize, j: usize, others: u64)
+        requires { (i < record_count clauses k.now) × (j < clause_length k.now i)
+            × (length self.old.sums.now ≤ 256) }
+        ensures { StruckOut (met_at k.now i j) others self.old self.new }
     {
         let GroupCondition {
             attribute,
@@ -39,37 +41,37 @@ impl Asked {
             value,
         } = k.condition(i, j);
         // by the attribute's byte, any of 256 where it is read: an enum would put four arms in front of these
+        let asked = &mut self.asked;
         match attribute {
-            0 => strike_unmet(&mut self.entries, operator, value, others),
-            1 => strike_unmet(sums, operator, value, others),
-            2 => strike_unmet(&mut self.numbers, operator, value, others),
-            _ => strike_roles(&mut self.roles, value, others),
+            0 => strike_unmet(&mut asked.entries, operator, value, others),
+            1 => strike_unmet(&mut self.sums[..], operator, value, others),
+            2 => strike_unmet(&mut asked.numbers, operator, value, others),
+            _ => strike_roles(&mut asked.roles, value, others),
         }
     }
 
     // The same for all conditions of clause i.
-    fn strike_clause(&mut self, sums: &mut [u64], k: &GroupClauses<'_>, i: usize, others: u64)
-        requires { (i < record_count clauses k.now) × (length sums.old ≤ 256) }
-        ensures { StruckAll (length sums.old) (met k.now i) others self.old sums.old self.new sums.new }
+    fn strike_clause(&mut self, k: &GroupClauses<'_>, i: usize, others: u64)
+        requires { (i < record_count clauses k.now) × (length self.old.sums.now ≤ 256) }
+        ensures { StruckOut (met k.now i) others self.old self.new }
     {
         // by number: the conditions stand in the record, not in a slice of their own
         for j in 0..k.length(i) {
-            self.strike_condition(sums, k, i, j, others);
+            self.strike_condition(k, i, j, others);
         }
     }
 
     // Strikes each clause of the set out of the masks of what it isn't met by.
-    pub(crate) fn strike_clauses(&mut self, sums: &mut [u64], k: &GroupClauses<'_>, own: u64)
-        requires { (own < 2 ^ record_count clauses k.now) × (length sums.old ≤ 256)
-            × NarrowedAll k.now own own (length sums.old) self.old sums.old }
-        ensures { (length sums.new ≡ length sums.old)
-            × NarrowedAll k.now own 0 (length sums.old) self.new sums.new }
+    pub(crate) fn strike_clauses(&mut self, k: &GroupClauses<'_>, own: u64)
+        requires { (own < 2 ^ record_count clauses k.now) × (length self.old.sums.now ≤ 256)
+            × NarrowedAll k.now own own (length self.old.sums.now) self.old.asked self.old.sums.now }
+        ensures { AllStruck k.now own self.old self.new }
     {
         // the library has no iterator over the bits of a number
         let mut rest = own;
         while rest != 0 {
             let i = some_clause(rest);
-            self.strike_clause(sums, k, i, all_but(own, i));
+            self.strike_clause(k, i, all_but(own, i));
             rest = all_but(rest, i);
         }
     }

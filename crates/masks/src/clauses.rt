@@ -5,7 +5,7 @@ ghost use Rattle.folds.specs.Sets.{in_set};
 ghost use Rattle.reader.specs.Tables.{clauses, record_count};
 ghost use Rattle.masks.specs.Clauses.{clauses_of, stands_to, lacks, Struck, AllBut, NarrowedAll};
 
-use crate::asked::Asked;
+use crate::asked::{Asked, Striking};
 use crate::table::GroupClauses;
 use weights::{operators, sets};
 
@@ -84,11 +84,12 @@ pub fn clauses_met(k: &GroupClauses<'_>, own: u64, sums: &mut [u64]) -> Asked
         × NarrowedAll k.now own 0 (length sums.old) result sums.new }
 {
     sums.fill(own);
-    let mut asked = Asked {
+    let asked = Asked {
         entries: [own; 7],
         numbers: [own; 9],
         roles: [own; 8],
     };
-    asked.strike_clauses(sums, k, own);
-    asked
+    let mut striking = Striking { asked, sums };
+    striking.strike_clauses(k, own);
+    striking.asked
 }
