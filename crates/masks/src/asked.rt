@@ -40,8 +40,8 @@ impl Striking<'_> {
             operator,
             value,
         } = k.condition(i, j);
-        // by the attribute's byte, any of 256 where it is read: an enum would put four arms in front of these
         let asked = &mut self.asked;
+        // by the attribute's byte, any of 256 where it is read: an enum would put four arms in front of these
         match attribute {
             0 => strike_unmet(&mut asked.entries, operator, value, others),
             1 => strike_unmet(&mut self.sums[..], operator, value, others),
