@@ -28,7 +28,7 @@ fn cover(a: &Policies<'_>, i: usize, juniors: &[u8; 8]) -> u8
 {
     let role = a.role(i);
     let own = sets::role_bit(role);
-    if a.type_of(i) == 1 {
+    if a.is_inherited(i) {
         own | seniors_of(juniors, role)
     } else {
         own

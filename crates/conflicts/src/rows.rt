@@ -61,7 +61,7 @@ fn policies_disagree(a: &Policies<'_>, i: usize, j: usize) -> bool
 {
     a.role(i) == a.role(j)
         && a.permission(i) == a.permission(j)
-        && (a.weight(i) != a.weight(j) || a.type_of(i) != a.type_of(j))
+        && (a.weight(i) != a.weight(j) || a.is_inherited(i) != a.is_inherited(j))
 }
 
 // The context numbers x and y are related, by the rows of related slots.
