@@ -41,7 +41,7 @@ pub struct Conflicts {
 fn row<F: Fn(usize) -> bool>(from: usize, end: usize, test: F) -> u64
     requires inside { (from ≤ end) × (end ≤ 64) }
     requires callable { (j : ℕ) → from ≤ j → j < end → F.pre test j }
-    ensures { (p : ℕ → Bool) → ((j : ℕ) (r : Bool) → F.post test j r → r ≡ p j) →
+    ensures { (p : ℕ → Bool) → ((j : ℕ) (r : Bool) → from ≤ j → j < end → F.post test j r → r ≡ p j) →
         ((j : ℕ) → j < from → p j ≡ false) → (j : ℕ) → in_set result j ≡ (ltb j end && p j) }
 {
     (from..end)
