@@ -28,13 +28,33 @@ impl From<Kind> for u8 {
     }
 }
 
-// The conflicts of one kind: a row for each first, with the bits of those that come second beside it.
+// The conflicts of one kind: a row for each first, with the bits of those that come second beside it. Nothing is
+// allocated: there is room for 64 rows, and those below `firsts` are lent.
 #[derive(Drop)]
 pub struct Conflicts {
     pub kind: Kind,
     pub firsts: usize,
     pub rows: [u64; 64],
     ghost few: { firsts ≤ 64 },
+}
+
+impl Conflicts {
+    // Those of a kind, with the row that `make` gives for each first.
+    fn of<F: Fn(usize) -> u64>(kind: Kind, firsts: usize, make: F) -> Conflicts
+        requires few { firsts ≤ 64 }
+        requires callable { (i : ℕ) → i < firsts → F.pre make i }
+        ensures kind { result.kind ≡ kind }
+        ensures firsts { result.firsts ≡ firsts }
+        ensures rows { (i : ℕ) → i < firsts → F.post make i (get_or result.rows i 0) }
+    {
+        let mut found = Conflicts {
+            kind,
+            firsts,
+            rows: [0; 64],
+        };
+        filling::fill(&mut found.rows, firsts, make);
+        found
+    }
 }
 
 // The set of the numbers from `from` on that lie before `end` and pass the test.
@@ -134,14 +154,11 @@ pub fn contradictions(base: &Base<'_>) -> Conflicts
     let a = base.policies();
     let names = slots::names(a.bytes());
     let related = slots::relations(base.part(Table::Contexts), names);
-    let firsts = a.count();
-    let mut found = Conflicts {
-        kind: Kind::Contradiction,
-        firsts,
-        rows: [0; 64],
-    };
-    filling::fill(&mut found.rows, firsts, |i| contradict_row(&related, &a, i));
-    found
+    Conflicts::of(
+        Kind::Contradiction,
+        a.count(),
+        |i| contradict_row(&related, &a, i),
+    )
 }
 
 // Inner: the conflicts of kind 2 of an accepted base, a row for each policy.
@@ -153,18 +170,11 @@ pub fn overlaps(base: &Base<'_>) -> Conflicts
     let a = base.policies();
     let covered = covers::cover_sets(&weights::juniors_of_base(base), &a);
     let apart = covers::excluded_sets(base.part(Table::Exclusions));
-    let firsts = a.count();
-    let mut found = Conflicts {
-        kind: Kind::Overlap,
-        firsts,
-        rows: [0; 64],
-    };
-    filling::fill(
-        &mut found.rows,
-        firsts,
+    Conflicts::of(
+        Kind::Overlap,
+        a.count(),
         |i| overlap_row(&apart, &covered, &a, i),
-    );
-    found
+    )
 }
 
 // Inner: the conflicts of kind 3 of an accepted base, a row for each user.
@@ -176,12 +186,9 @@ pub fn holders(base: &Base<'_>) -> Conflicts
     let users = base.part(Table::Users);
     let x = base.part(Table::Exclusions);
     let roles = base.role_count();
-    let firsts = users.len() / 4;
-    let mut found = Conflicts {
-        kind: Kind::Holder,
-        firsts,
-        rows: [0; 64],
-    };
-    filling::fill(&mut found.rows, firsts, |u| holds_row(users, roles, x, u));
-    found
+    Conflicts::of(
+        Kind::Holder,
+        users.len() / 4,
+        |u| holds_row(users, roles, x, u),
+    )
 }
