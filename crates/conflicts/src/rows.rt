@@ -6,6 +6,7 @@ ghost use Rattle.conflicts.specs.Conflicts.{disagree, holds_both};
 ghost use Rattle.conflicts.specs.Kinds.{kind_number};
 ghost use Rattle.conflicts.specs.Rows.{related_by, contradict_by, overlap_by, Contradictions, Overlaps, Holders};
 
+use crate::exclusions::Exclusion;
 use crate::{covers, filling};
 use reader::{Base, Policies, Table, codes};
 use related::slots;
@@ -132,10 +133,13 @@ fn holds_both(users: &[u8], roles: u8, x: &[u8], u: usize, e: usize) -> bool
     requires { (roles ≤ 8) × (3 * e + 3 ≤ length x.now) }
     ensures { result ≡ holds_both roles users.now x.now u e }
 {
-    let at = 3 * e;
-    x[at] == 0
-        && codes::held_by(users, roles, u, x[at + 1] as usize)
-        && codes::held_by(users, roles, u, x[at + 2] as usize)
+    match Exclusion::read(&x[3 * e..3 * e + 3]) {
+        Exclusion::Roles(r, s) => {
+            codes::held_by(users, roles, u, r as usize)
+                && codes::held_by(users, roles, u, s as usize)
+        }
+        Exclusion::Permissions(..) => false,
+    }
 }
 
 fn holds_row(users: &[u8], roles: u8, x: &[u8], u: usize) -> u64
