@@ -1,5 +1,6 @@
 pub mod Tables
 pub mod Bits
+pub mod Excluding
 pub mod Lists
 pub mod Found
 pub mod Loops

@@ -7,6 +7,7 @@ ghost use Rattle.weights.specs.Setting.{Juniors};
 ghost use Rattle.conflicts.specs.Conflicts.{covers, excludes};
 ghost use Rattle.conflicts.specs.Rows.{Covers, Excluded};
 
+use crate::exclusions::Exclusion;
 use crate::filling;
 use reader::Policies;
 use weights::sets;
@@ -28,7 +29,7 @@ fn cover(a: &Policies<'_>, i: usize, juniors: &[u8; 8]) -> u8
 {
     let role = a.role(i);
     let own = sets::role_bit(role);
-    if a.type_of(i) == 1 {
+    if a.is_inherited(i) {
         own | seniors_of(juniors, role)
     } else {
         own
@@ -53,16 +54,13 @@ fn add_pair(excluded: &mut [u32; 16], p: u8, q: u8)
     excluded[p as usize] |= sets::bit(q);
 }
 
-// Adds to the sets what exclusion record e says, if it is of kind 1.
-fn add_exclusion(excluded: &mut [u32; 16], x: &[u8], e: usize)
-    requires { (e < length x.now / 3) × (exclusions_bad 8 16 x.now ≡ false) }
+// Adds to the sets what an exclusion record says, if it is of permissions.
+fn add_exclusion(excluded: &mut [u32; 16], exclusion: &[u8])
+    requires { (length exclusion.now ≡ 3) × (exclusions_bad 8 16 exclusion.now ≡ false) }
     ensures { (s t : ℕ) → in_set (get_or excluded.new s 0) t
-        ≡ (in_set (get_or excluded.old s 0) t || excludes x.now s t e) }
+        ≡ (in_set (get_or excluded.old s 0) t || excludes exclusion.now s t 0) }
 {
-    let at = 3 * e;
-    if x[at] == 1 {
-        let p = x[at + 1];
-        let q = x[at + 2];
+    if let Exclusion::Permissions(p, q) = Exclusion::read(exclusion) {
         add_pair(excluded, p, q);
         add_pair(excluded, q, p);
     }
@@ -75,8 +73,8 @@ pub fn excluded_sets(x: &[u8]) -> [u32; 16]
 {
     let mut excluded = [0; 16];
     // A record adds to two of the sets, so that no chain makes them one by one.
-    for e in 0..x.len() / 3 {
-        add_exclusion(&mut excluded, x, e);
+    for exclusion in x.chunks_exact(3) {
+        add_exclusion(&mut excluded, exclusion);
     }
     excluded
 }

@@ -2,7 +2,7 @@
 ghost use Rattle.std.specs.Prelude.{◌≡◌, ℕ, ◌≤◌, ◌<◌, get_or};
 
 // Inner: each place before `end` gets what `make` gives of its number.
-// Too slow, when tried: `array::from_fn`, which makes all 64, and a returned array, which is copied into its struct.
+// `array::from_fn` would make all 64, those of policies that aren't there too.
 pub fn fill<T: Copy, F: Fn(usize) -> T>(places: &mut [T; 64], end: usize, make: F)
     requires few { end ≤ 64 }
     requires callable { (i : ℕ) → i < end → F.pre make i }

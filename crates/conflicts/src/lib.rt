@@ -8,6 +8,7 @@ ghost use Rattle.conflicts.specs.Conflicts.{conflict_answer, conflict_bytes};
 use reader::{Refusal, Refused};
 
 mod covers;
+mod exclusions;
 mod filling;
 mod rows;
 mod writing;

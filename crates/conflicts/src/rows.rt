@@ -6,6 +6,7 @@ ghost use Rattle.conflicts.specs.Conflicts.{disagree, holds_both};
 ghost use Rattle.conflicts.specs.Kinds.{kind_number};
 ghost use Rattle.conflicts.specs.Rows.{related_by, contradict_by, overlap_by, Contradictions, Overlaps, Holders};
 
+use crate::exclusions::Exclusion;
 use crate::{covers, filling};
 use reader::{Base, Policies, Table, codes};
 use related::slots;
@@ -28,7 +29,8 @@ impl From<Kind> for u8 {
     }
 }
 
-// The conflicts of one kind: a row for each first, with the bits of those that come second beside it.
+// The conflicts of one kind: a row for each first, with the bits of those that come second beside it. Nothing is
+// allocated: there is room for 64 rows, and those below `firsts` are lent.
 #[derive(Drop)]
 pub struct Conflicts {
     pub kind: Kind,
@@ -37,11 +39,30 @@ pub struct Conflicts {
     ghost few: { firsts ≤ 64 },
 }
 
+impl Conflicts {
+    // Those of a kind, with the row that `make` gives for each first.
+    fn of<F: Fn(usize) -> u64>(kind: Kind, firsts: usize, make: F) -> Conflicts
+        requires few { firsts ≤ 64 }
+        requires callable { (i : ℕ) → i < firsts → F.pre make i }
+        ensures kind { result.kind ≡ kind }
+        ensures firsts { result.firsts ≡ firsts }
+        ensures rows { (i : ℕ) → i < firsts → F.post make i (get_or result.rows i 0) }
+    {
+        let mut found = Conflicts {
+            kind,
+            firsts,
+            rows: [0; 64],
+        };
+        filling::fill(&mut found.rows, firsts, make);
+        found
+    }
+}
+
 // The set of the numbers from `from` on that lie before `end` and pass the test.
 fn row<F: Fn(usize) -> bool>(from: usize, end: usize, test: F) -> u64
     requires inside { (from ≤ end) × (end ≤ 64) }
     requires callable { (j : ℕ) → from ≤ j → j < end → F.pre test j }
-    ensures { (p : ℕ → Bool) → ((j : ℕ) (r : Bool) → F.post test j r → r ≡ p j) →
+    ensures { (p : ℕ → Bool) → ((j : ℕ) (r : Bool) → from ≤ j → j < end → F.post test j r → r ≡ p j) →
         ((j : ℕ) → j < from → p j ≡ false) → (j : ℕ) → in_set result j ≡ (ltb j end && p j) }
 {
     (from..end)
@@ -61,7 +82,7 @@ fn policies_disagree(a: &Policies<'_>, i: usize, j: usize) -> bool
 {
     a.role(i) == a.role(j)
         && a.permission(i) == a.permission(j)
-        && (a.weight(i) != a.weight(j) || a.type_of(i) != a.type_of(j))
+        && (a.weight(i) != a.weight(j) || a.is_inherited(i) != a.is_inherited(j))
 }
 
 // The context numbers x and y are related, by the rows of related slots.
@@ -112,10 +133,13 @@ fn holds_both(users: &[u8], roles: u8, x: &[u8], u: usize, e: usize) -> bool
     requires { (roles ≤ 8) × (3 * e + 3 ≤ length x.now) }
     ensures { result ≡ holds_both roles users.now x.now u e }
 {
-    let at = 3 * e;
-    x[at] == 0
-        && codes::held_by(users, roles, u, x[at + 1] as usize)
-        && codes::held_by(users, roles, u, x[at + 2] as usize)
+    match Exclusion::read(&x[3 * e..3 * e + 3]) {
+        Exclusion::Roles(r, s) => {
+            codes::held_by(users, roles, u, r as usize)
+                && codes::held_by(users, roles, u, s as usize)
+        }
+        Exclusion::Permissions(..) => false,
+    }
 }
 
 fn holds_row(users: &[u8], roles: u8, x: &[u8], u: usize) -> u64
@@ -134,14 +158,11 @@ pub fn contradictions(base: &Base<'_>) -> Conflicts
     let a = base.policies();
     let names = slots::names(a.bytes());
     let related = slots::relations(base.part(Table::Contexts), names);
-    let firsts = a.count();
-    let mut found = Conflicts {
-        kind: Kind::Contradiction,
-        firsts,
-        rows: [0; 64],
-    };
-    filling::fill(&mut found.rows, firsts, |i| contradict_row(&related, &a, i));
-    found
+    Conflicts::of(
+        Kind::Contradiction,
+        a.count(),
+        |i| contradict_row(&related, &a, i),
+    )
 }
 
 // Inner: the conflicts of kind 2 of an accepted base, a row for each policy.
@@ -153,18 +174,11 @@ pub fn overlaps(base: &Base<'_>) -> Conflicts
     let a = base.policies();
     let covered = covers::cover_sets(&weights::juniors_of_base(base), &a);
     let apart = covers::excluded_sets(base.part(Table::Exclusions));
-    let firsts = a.count();
-    let mut found = Conflicts {
-        kind: Kind::Overlap,
-        firsts,
-        rows: [0; 64],
-    };
-    filling::fill(
-        &mut found.rows,
-        firsts,
+    Conflicts::of(
+        Kind::Overlap,
+        a.count(),
         |i| overlap_row(&apart, &covered, &a, i),
-    );
-    found
+    )
 }
 
 // Inner: the conflicts of kind 3 of an accepted base, a row for each user.
@@ -176,12 +190,9 @@ pub fn holders(base: &Base<'_>) -> Conflicts
     let users = base.part(Table::Users);
     let x = base.part(Table::Exclusions);
     let roles = base.role_count();
-    let firsts = users.len() / 4;
-    let mut found = Conflicts {
-        kind: Kind::Holder,
-        firsts,
-        rows: [0; 64],
-    };
-    filling::fill(&mut found.rows, firsts, |u| holds_row(users, roles, x, u));
-    found
+    Conflicts::of(
+        Kind::Holder,
+        users.len() / 4,
+        |u| holds_row(users, roles, x, u),
+    )
 }

@@ -20,11 +20,12 @@ use Rattle.std.specs.declared.option.Option.TheVariants.{Some}
 use Rattle.std.proofs.iter.Yields.{nat_range_steps, gives_Drains}
 use Rattle.std.proofs.lemmas.Fn.{serves_by}
 use Rattle.std.proofs.lemmas.Iterator.{YieldsList-from_range}
-use Rattle.std.proofs.lemmas.Iterator.Consumers.{YieldsList-turn, YieldsList-from_filter, fold_from_yields_List}
+use Rattle.std.proofs.lemmas.Iterator.Consumers.{YieldsList-turn, fold_from_yields_List}
 use Rattle.std.proofs.lemmas.List.FromFn.{length-range_with_len, get_or-range_with_len}
 use Rattle.folds.specs.Below.{any_below}
 use Rattle.folds.specs.Sets.{in_set, set_below}
 use Rattle.folds.proofs.Bools.{eqb_sym}
+use Rattle.folds.proofs.Filters.{passing_of_range}
 use Rattle.folds.proofs.Numbers.{sum_zero}
 use Rattle.folds.proofs.Sets.{in_none, in_one, in_or, in_below, set_none, set_or}
 use Rattle.folds.proofs.Tests.{any_none, any_next, any_same}
@@ -128,20 +129,29 @@ fold_filtered p h a (x ∷ xs) = by (p x) (λ b. fold_filtered p h b xs)
     by true e = e (h a x)
     by false e = e a
 
--- `fold` after `filter p` over a range, where p holds of no number before it, gathers those of which p holds
+-- `fold` after `filter p` over a range, where p holds of no number before it, gathers those of which p holds; the test
+-- is asked of the range alone
 module _ {F G : Type 0} {g : Mut F (Bor ℕ × Unit {0}) Bool} {h : Mut G (ℕ × (ℕ × Unit {0})) ℕ}
     {s : Filter (Range ℕ) F} {f : F} {add : G} {set : ℕ} (p : ℕ → Bool) (from end : ℕ) (some : from ≤ end) where
-  pub gathered_from : FoldsItems (filter_steps nat_range_steps g) h s add 0 set →
+  pub gathered_between : FoldsItems (filter_steps nat_range_steps g) h s add 0 set →
       filter_source s ≡ record { start = from; end = end } → filter_callee s ≡ f →
-      ((x : ℕ) (b : Bool) (q : F) → CalledAt g f x b q → (q ≡ f) × (b ≡ p x)) →
+      ((x : ℕ) (b : Bool) (q : F) → from ≤ x → x < end → CalledAt g f x b q → (q ≡ f) × (b ≡ p x)) →
       ((a x b : ℕ) (q : G) → Called h add (a, (x, tt)) b q → (q ≡ add) × (b ≡ bit_or a (2 ^ x))) →
       ((k : ℕ) → k < from → p k ≡ false) → (r : ℕ) → in_set set r ≡ (ltb r end && p r)
   unfolding set_below
-  gathered_from ran source callee tests adds low r =
+  gathered_between ran source callee tests adds low r =
       let n = end - from in
-      let road = YieldsList-from_filter g p (YieldsList-from_range from end n source refl) callee tests in
+      let road = passing_of_range g p from end tests source some callee in
       let is = fold_from_yields_List h (λ a x. bit_or a (2 ^ x)) 0 set ran road adds
       ∙ fold_filtered p (λ a x. bit_or a (2 ^ x)) 0 (range_with_len from n)
       ∙ passing p from n end 0 (omega arith)
       (sym (sum_zero (λ k. cond (p k) (2 ^ k) 0) from (λ k l. rw (low k l)))) in
       ap (λ x. in_set x r) is ∙ in_below p end r
+
+  pub gathered_from : FoldsItems (filter_steps nat_range_steps g) h s add 0 set →
+      filter_source s ≡ record { start = from; end = end } → filter_callee s ≡ f →
+      ((x : ℕ) (b : Bool) (q : F) → CalledAt g f x b q → (q ≡ f) × (b ≡ p x)) →
+      ((a x b : ℕ) (q : G) → Called h add (a, (x, tt)) b q → (q ≡ add) × (b ≡ bit_or a (2 ^ x))) →
+      ((k : ℕ) → k < from → p k ≡ false) → (r : ℕ) → in_set set r ≡ (ltb r end && p r)
+  gathered_from ran source callee tests =
+      gathered_between ran source callee (λ x b q l m called. tests x b q called)

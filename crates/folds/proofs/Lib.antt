@@ -7,6 +7,7 @@ pub mod Gathers
 pub mod Lowest
 pub mod Lists
 pub mod Chains
+pub mod Filters
 pub mod Folds
 pub mod Arrays
 pub mod Changing

@@ -1,5 +1,5 @@
 // The policies of an accepted base, by number.
-ghost use Rattle.std.specs.Prelude.{◌≡◌, false, ◌⊎◌, ◌≤◌, ◌<◌, List, ℕ};
+ghost use Rattle.std.specs.Prelude.{◌≡◌, false, ◌⊎◌, ◌≤◌, ◌<◌, List, ℕ, eqb};
 ghost use Rattle.reader.specs.Tables.{policies, table_of, record_count};
 ghost use Rattle.reader.specs.Fields.{policy_role, policy_permission, policy_weight, policy_type, policy_context};
 ghost use Rattle.reader.specs.Rules.{policies_bad, refusal_of};
@@ -77,16 +77,17 @@ impl<'a> Policies<'a> {
         a[8 * i + 2]
     }
 
-    // Inner: its type.
-    pub fn type_of(&self, i: usize) -> u8
+    // Inner: whether its type is 1: the seniors of its role inherit it.
+    pub fn is_inherited(&self, i: usize) -> bool
         requires { i < record_count policies self.now }
-        ensures { (result ≡ policy_type self.now i) × (result ≤ 1) }
+        ensures { (result ≡ eqb (policy_type self.now i) 1) × (policy_type self.now i ≤ 1) }
     {
         let a = self.table;
-        a[8 * i + 3]
+        a[8 * i + 3] == 1
     }
 
-    // Inner: its context number.
+    // Inner: its context number. No `Option`: 255 has a slot and a clause of its own as the others do, so that every
+    // caller would turn None back into it.
     pub fn context(&self, i: usize) -> u8
         requires { i < record_count policies self.now }
         ensures { (result ≡ policy_context self.now i) × ((result ≤ 15) ⊎ (result ≡ 255)) }

@@ -8,7 +8,7 @@ use crate::chosen::Chosen;
 use crate::sets;
 use reader::{Policies, bytes};
 
-// The context number holds, by the set of those that do.
+// The context number holds, by the set of those that do. 255 is no `Option`: the definitions take the number.
 fn in_force(contexts: u32, number: u8) -> bool
     requires { (number ≤ 15) ⊎ (number ≡ 255) }
     ensures { result ≡ in_force_by contexts number }
@@ -68,7 +68,7 @@ pub fn choose(a: &Policies<'_>, contexts: u32, list: &[u8]) -> Chosen
         if in_force(contexts, a.context(i)) {
             let place = place_of(a.permission(i), a.role(i));
             any.take_up(place, list, a, i);
-            if a.type_of(i) == 1 {
+            if a.is_inherited(i) {
                 one.take_up(place, list, a, i);
             }
         }

@@ -9,7 +9,10 @@ use Rattle.reader.specs.Rules.{refusal_of}
 use Rattle.reader.specs.declared.Answer.{Answer}
 use Rattle.reader.proofs.Results.{refusal_pos, carried_on}
 use Rattle.conflicts.specs.Conflicts.{conflicts, conflict_count, too_short, conflict_answer, conflict_bytes}
-use Rattle.conflicts.specs.Rows.{Contradictions, Overlaps, Holders, rows_records}
+use Rattle.conflicts.specs.declared.rows.Conflicts.{Conflicts}
+use Rattle.conflicts.specs.Kinds.{kind_number}
+use Rattle.conflicts.specs.Records.{records_of}
+use Rattle.conflicts.specs.Rows.{Contradictions, Overlaps, Holders}
 use Rattle.conflicts.proofs.Lists.{found_list, list_count, written, wrote_none, wrote_more}
 use Rattle.conflicts.proofs.list.Goals as goal
 
@@ -36,19 +39,22 @@ module _ (b out : List ℕ) where
       let list = ap (λ (x : List ℕ). sets out 0 x) are ∙ written b out (rw (← count) enough) in
       rw (ok, ← count, le-ltb _ _ enough) (refl, wrote ∙ rw count list)
 
--- the records of the rows of the three kinds, of the base as it was accepted
-all_found : (b : List ℕ) {a one two three : List ℕ} {k₁ k₂ k₃ n₁ n₂ n₃ : ℕ} → a ≡ b → refusal_of b ≡ 0 →
-    Contradictions a one → Overlaps a two → Holders a three → (k₁ ≡ 1) × (k₂ ≡ 2) × (k₃ ≡ 3) →
-    n₁ ≡ record_count policies (table_of a policies) → n₂ ≡ record_count policies (table_of a policies) →
-    n₃ ≡ record_count users (table_of a users) →
-    rows_records k₁ one n₁ ++ (rows_records k₂ two n₂ ++ rows_records k₃ three n₃) ≡ conflicts b
-all_found b same ok first second third (k, l, m) n o p =
-    rw (k, l, m, n, o, p, same) (found_list b _ _ _ ok (rw same at first) (rw same at second) (rw same at third))
-
--- three bytes for each record
-counted : (x y z : List ℕ) (l m n : ℕ) → 3 * l ≡ length x → 3 * m ≡ length y → 3 * n ≡ length z →
-    3 * (l + m + n) ≡ length (x ++ (y ++ z))
-counted x y z l m n a b c = rw (length-append x (y ++ z), length-append y z) (omega arith)
+-- the records of the three kinds, of the base as it was accepted, are the list, and as many as it has
+listed : (b : List ℕ) {a : List ℕ} (one two three : Conflicts) (l m n : ℕ) → a ≡ b → refusal_of b ≡ 0 →
+    (kind_number one.kind ≡ 1) × (one.firsts ≡ record_count policies (table_of a policies))
+    × Contradictions a one.rows →
+    (kind_number two.kind ≡ 2) × (two.firsts ≡ record_count policies (table_of a policies)) × Overlaps a two.rows →
+    (kind_number three.kind ≡ 3) × (three.firsts ≡ record_count users (table_of a users)) × Holders a three.rows →
+    (3 * l ≡ length (records_of one)) × (3 * m ≡ length (records_of two)) × (3 * n ≡ length (records_of three)) →
+    (records_of one ++ (records_of two ++ records_of three) ≡ conflicts b) × (l + m + n ≡ conflict_count b)
+listed b one two three l m n same ok (i, o, first) (j, p, second) (k, q, third) (x, y, z) =
+    let x_y_z = records_of one ++ (records_of two ++ records_of three) in
+    let are : x_y_z ≡ conflicts b =
+    rw (i, j, k, o, p, q, same) (found_list b _ _ _ ok (rw same at first) (rw same at second) (rw same at third)) in
+    let behind = length-append (records_of two) (records_of three) in
+    let size : 3 * (l + m + n) ≡ length x_y_z =
+    sym (length-append (records_of one) (records_of two ++ records_of three) ∙ omega (arith, x, y, z, behind)) in
+    (are, list_count b x_y_z (l + m + n) size are)
 
 -- one kind behind the other
 all_written : (out x y z : List ℕ) {first second third : List ℕ} {l m n : ℕ} →
@@ -69,11 +75,12 @@ returns-then-out-count c =
     let one = c.contradictions-one.ensures in
     let two = c.overlaps-two.ensures in
     let three = c.holders-three.ensures in
-    let are =
-    all_found c.args.base.now c.in_ok-base.ensures.same ok one.rows two.rows three.rows
-    (one.kind, two.kind, three.kind) one.firsts two.firsts three.firsts in
-    let size = counted _ _ _ _ _ _ c.count.ensures.0 c.count-2.ensures.0 c.count-3.ensures.0 in
-    no_room c.args.base.now c.args.out.now ok (list_count _ _ _ size are) c.if-out-count.true
+    let (_, count) =
+    listed c.args.base.now c.contradictions-one.result c.overlaps-two.result c.holders-three.result _ _ _
+    c.in_ok-base.ensures.same ok
+    (one.kind, one.firsts, one.rows) (two.kind, two.firsts, two.rows) (three.kind, three.firsts, three.rows)
+    (c.count.ensures.0, c.count-2.ensures.0, c.count-3.ensures.0) in
+    no_room c.args.base.now c.args.out.now ok count c.if-out-count.true
 
 pub returns : goal.returns
 returns c =
@@ -81,9 +88,10 @@ returns c =
     let one = c.contradictions-one.ensures in
     let two = c.overlaps-two.ensures in
     let three = c.holders-three.ensures in
-    let are =
-    all_found c.args.base.now c.in_ok-base.ensures.same ok one.rows two.rows three.rows
-    (one.kind, two.kind, three.kind) one.firsts two.firsts three.firsts in
-    let size = counted _ _ _ _ _ _ c.count.ensures.0 c.count-2.ensures.0 c.count-3.ensures.0 in
-    room c.args.base.now c.args.out.now ok (list_count _ _ _ size are) c.if-out-count.false are
+    let (are, count) =
+    listed c.args.base.now c.contradictions-one.result c.overlaps-two.result c.holders-three.result _ _ _
+    c.in_ok-base.ensures.same ok
+    (one.kind, one.firsts, one.rows) (two.kind, two.firsts, two.rows) (three.kind, three.firsts, three.rows)
+    (c.count.ensures.0, c.count-2.ensures.0, c.count-3.ensures.0) in
+    room c.args.base.now c.args.out.now ok count c.if-out-count.false are
     (all_written _ _ _ _ c.write-behind.ensures c.write-last.ensures c.write.ensures)

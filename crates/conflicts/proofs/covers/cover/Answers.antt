@@ -1,8 +1,7 @@
 -- `cover` meets its contract: the policy's own role, and for type 1 that role's seniors with it.
-use Rattle.std.proofs.Common.{ℕ, ◌≡◌, List, eqb, bit_or, ap, ◌∙◌}
+use Rattle.std.proofs.Common.{ℕ, ◌≡◌, true, false, List, eqb, bit_or, sym, ap, ◌∙◌}
 use Prim.Native.Nat.{◌^◌}
 use mathlib.Core.Bool.{or-false}
-use borrow.Author.Tests.{ne_eqb, eq-eqb}
 use Rattle.folds.specs.Sets.{in_set}
 use Rattle.folds.proofs.Bools.{eqb_sym}
 use Rattle.folds.proofs.Sets.{in_one, in_or}
@@ -15,25 +14,25 @@ module _ (h a : List ℕ) (i r : ℕ) {own : ℕ} (is : own ≡ 2 ^ policy_role 
   own_role : in_set own r ≡ eqb (policy_role a i) r
   own_role = rw is (in_one (policy_role a i) r ∙ eqb_sym r (policy_role a i))
 
-  alone : (policy_type a i ≡ 1 → ⊥) → in_set own r ≡ covers h a i r
+  alone : eqb (policy_type a i) 1 ≡ false → in_set own r ≡ covers h a i r
   unfolding covers
-  alone other = rw (ne_eqb _ _ other, or-false) own_role
+  alone other = rw (other, or-false) own_role
 
-  with_seniors : (seniors : ℕ) → policy_type a i ≡ 1 → in_set seniors r ≡ senior_to h r (policy_role a i) →
+  with_seniors : (seniors : ℕ) → eqb (policy_type a i) 1 ≡ true → in_set seniors r ≡ senior_to h r (policy_role a i) →
       in_set (bit_or own seniors) r ≡ covers h a i r
   unfolding covers
-  with_seniors seniors one e = in_or own seniors r ∙ rw (own_role, e, eq-eqb _ _ one)
+  with_seniors seniors one e = in_or own seniors r ∙ rw (own_role, e, one)
 
-pub returns-else-type_of-eq1 : goal.returns-else-type_of-eq1
-returns-else-type_of-eq1 c =
+pub returns-else-is_inherited : goal.returns-else-is_inherited
+returns-else-is_inherited c =
     let own = rw c.role-role.ensures.0 at c.role_bit-own.ensures in
-    let other = rw c.type_of.ensures.0 at c.if-type_of-eq1.false in
+    let other = sym c.is_inherited.ensures.0 ∙ c.if-is_inherited.false in
     λ h juniors r l. alone h c.args.a.now c.args.i r own other
 
-pub returns-then-type_of-eq1 : goal.returns-then-type_of-eq1
-returns-then-type_of-eq1 c =
+pub returns-then-is_inherited : goal.returns-then-is_inherited
+returns-then-is_inherited c =
     let own = rw c.role-role.ensures.0 at c.role_bit-own.ensures in
-    let one = rw c.type_of.ensures.0 at c.if-type_of-eq1.true in
+    let one = sym c.is_inherited.ensures.0 ∙ c.if-is_inherited.true in
     λ h juniors r l.
     with_seniors h c.args.a.now c.args.i r own c.seniors_of.result one
     (c.seniors_of.ensures r l ∙ juniors.role r _ l ∙ ap (senior_to h r) c.role-role.ensures.0)

@@ -1,18 +1,31 @@
 -- `excluded_sets` meets its contract: each turn adds one exclusion record.
-use Rattle.std.proofs.Common.{◌≡◌, ◌/◌, length, sym, arith, ◌∙◌}
-use Rattle.folds.proofs.Tests.{any_none, any_next}
-use Rattle.conflicts.specs.Conflicts.{excludes, excluded}
-use Rattle.conflicts.proofs.Bits.{empty_sets}
+use Rattle.std.proofs.Common.{◌∙◌, subst}
+use Rattle.conflicts.proofs.Excluding.{AddedYet, none_added, one_added, all_added, next_record, next_within}
+use Rattle.conflicts.proofs.Excluding.{fine_alone}
 use Rattle.conflicts.proofs.covers.excluded_sets.Goals as goal
 
-pub loop-e-init : goal.loop-e-init
-loop-e-init c = λ s t. empty_sets 16 s t ∙ sym (any_none (excludes c.args.x.now s t))
+pub loop-exclusion-init : goal.loop-exclusion-init
+loop-exclusion-init c =
+    let items = c.chunks_exact-exclusion-items.ensures in
+    let given = c.into_iter-exclusion-iterator.ensures.into_iter_gives in
+    (subst (AddedYet c.args.x.now _) (cc) (none_added c.args.x.now), cc)
 
-pub loop-e-preserved : goal.loop-e-preserved
-loop-e-preserved c = λ s t. c.add_exclusion.ensures s t ∙ rw (c.loop-e.invariant s t, any_next)
+pub add_exclusion-requires : goal.add_exclusion-requires
+add_exclusion-requires c =
+    let (_, (are, size), _) = c.in-Some.ensures.steps in
+    let (yet, three) = c.loop-exclusion.invariant in
+    let of = next_record yet _ _ are (size ∙ three) in
+    let l = next_within yet _ _ are (size ∙ three) in
+    (size ∙ three, fine_alone of 8 16 (size ∙ three) l c.requires)
+
+pub loop-exclusion-preserved : goal.loop-exclusion-preserved
+loop-exclusion-preserved c =
+    let (same, (are, size), _) = c.in-Some.ensures.steps in
+    let (yet, three) = c.loop-exclusion.invariant in
+    (one_added yet _ _ are (size ∙ three) c.add_exclusion.ensures, same ∙ three)
 
 pub returns : goal.returns
-unfolding excluded
 returns c =
-    let end : c.loop-e.e ≡ length c.args.x.now / 3 = omega arith in
-    record { permission = λ p q m n. rw end at (c.loop-e.invariant p q) }
+    let (_, (short, _), _) = c.in-None.ensures.steps in
+    let (yet, three) = c.loop-exclusion.invariant in
+    all_added yet (rw three at short)

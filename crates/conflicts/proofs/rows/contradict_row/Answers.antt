@@ -9,5 +9,5 @@ returns c =
     let a = c.args in
     let (is, few) = c.count-end.ensures.count in
     rw (← is)
-    (c.row.ensures (contradict_by a.rows.now a.a.now a.i) (λ j r k. search rules)
+    (c.row.ensures (contradict_by a.rows.now a.a.now a.i) (λ j r l m k. search rules)
     (λ j l. rw (le-ltb a.i j (omega arith))))

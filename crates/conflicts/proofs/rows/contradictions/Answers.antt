@@ -1,6 +1,5 @@
 -- `contradictions` meets its contract: the rows by the related slots are those of the rules.
 use Rattle.std.proofs.Common.{ℕ, ◌≡◌, ◌/◌, List, length, rules, arith}
-use lib.Dec.{lit<}
 use Rattle.folds.specs.Sets.{in_set}
 use Rattle.reader.specs.Tables.{contexts, policies, table_of}
 use Rattle.reader.specs.Rules.{refusal_of}
@@ -28,18 +27,13 @@ relations-related-requires c =
     let ok = c.part.ensures.accepted in
     rw c.part.ensures.table ((accepted _ ok).contexts, whole_contexts _ ok)
 
-pub fill-requires : goal.fill-requires
-fill-requires c =
-    let (is, few) = c.count-firsts.ensures.count in
-    (lit< tt, (few, λ i l. let within = rw is at l in search rules))
-
-pub invariant_of-found : goal.invariant_of-found
-invariant_of-found c = record { few = c.count-firsts.ensures.count.1 }
+pub of-requires-clause-callable : goal.of-requires-clause-callable
+of-requires-clause-callable c = λ i l. let within = rw c.count.ensures.count.0 at l in search rules
 
 pub returns-clause-rows : goal.returns-clause-rows
 returns-clause-rows c =
     let a = c.policies-a.ensures in
-    let (is, few) = c.count-firsts.ensures.count in
+    let (is, few) = c.count.ensures.count in
     found _ a.accepted a.policies c.part.ensures.table c.relations-related.ensures
     (rw c.bytes.ensures.bytes at c.names-names.ensures)
-    (record { row = λ i j l. let row = c.fill.ensures i 0 (rw is l) in search rules })
+    (record { row = λ i j l. let row = c.of.ensures.rows i (rw is l) in search rules })

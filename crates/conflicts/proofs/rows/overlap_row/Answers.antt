@@ -9,5 +9,5 @@ returns c =
     let a = c.args in
     let (is, few) = c.count-end.ensures.count in
     rw (← is)
-    (c.row.ensures (overlap_by a.apart.now a.covered.now a.a.now a.i) (λ j r k. search rules)
+    (c.row.ensures (overlap_by a.apart.now a.covered.now a.a.now a.i) (λ j r l m k. search rules)
     (λ j l. rw (le-ltb a.i j (omega arith))))

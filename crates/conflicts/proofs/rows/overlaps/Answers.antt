@@ -1,6 +1,5 @@
 -- `overlaps` meets its contract: the rows by the sets worked out are those of the rules.
 use Rattle.std.proofs.Common.{ℕ, ◌≡◌, ◌/◌, List, length, rules}
-use lib.Dec.{lit<}
 use Rattle.reader.specs.Tables.{hierarchy, policies, exclusions, table_of}
 use Rattle.reader.specs.Rules.{refusal_of}
 use Rattle.reader.proofs.Accepted.{accepted}
@@ -23,18 +22,13 @@ excluded_sets-apart-requires c =
     let roles = (roles_range _ f.frame).1 in
     rw c.part.ensures.table (exclusions_wider _ _ 8 16 _ roles (permissions_le _ f.frame) f.exclusions)
 
-pub fill-requires : goal.fill-requires
-fill-requires c =
-    let (is, few) = c.count-firsts.ensures.count in
-    (lit< tt, (few, λ i l. let within = rw is at l in search rules))
-
-pub invariant_of-found : goal.invariant_of-found
-invariant_of-found c = record { few = c.count-firsts.ensures.count.1 }
+pub of-requires-clause-callable : goal.of-requires-clause-callable
+of-requires-clause-callable c = λ i l. let within = rw c.count.ensures.count.0 at l in search rules
 
 pub returns-clause-rows : goal.returns-clause-rows
 returns-clause-rows c =
     let a = c.policies-a.ensures in
-    let (is, few) = c.count-firsts.ensures.count in
+    let (is, few) = c.count.ensures.count in
     found _ a.accepted a.policies c.part.ensures.table
     (c.cover_sets-covered.ensures _ c.juniors_of_base.ensures)
-    c.excluded_sets-apart.ensures (record { row = λ i j l. let row = c.fill.ensures i 0 (rw is l) in search rules })
+    c.excluded_sets-apart.ensures (record { row = λ i j l. let row = c.of.ensures.rows i (rw is l) in search rules })

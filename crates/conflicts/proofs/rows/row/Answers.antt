@@ -1,7 +1,7 @@
 -- `row` meets its contract: it gathers the numbers that pass the test.
 use Rattle.std.proofs.Common.{rules, ap, arith}
 use Rattle.std.proofs.lemmas.Iterator.{serves_from_Range}
-use Rattle.folds.proofs.Folds.{gathered_from}
+use Rattle.folds.proofs.Folds.{gathered_between}
 use Rattle.conflicts.proofs.rows.row.Goals as goal
 
 pub fold-requires-clause-can : goal.fold-requires-clause-can
@@ -18,5 +18,6 @@ fold-requires-clause-can g c =
 pub returns : goal.returns
 returns g c =
     λ p passes none j.
-    gathered_from p c.args.from c.args.end c.requires.inside.0 c.fold.ensures.ran c.filter.ensures.source
-    c.filter.ensures.closure (λ x b q k. (search rules, passes x b (search rules))) (λ a x b q k. search rules) none j
+    gathered_between p c.args.from c.args.end c.requires.inside.0 c.fold.ensures.ran c.filter.ensures.source
+    c.filter.ensures.closure (λ x b q l m k. (search rules, passes x b l m (search rules)))
+    (λ a x b q k. search rules) none j

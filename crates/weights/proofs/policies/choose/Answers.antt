@@ -1,5 +1,4 @@
 -- A turn is argued of plain values.
-use borrow.Author.Tests.{eq-eqb, ne_eqb}
 use Rattle.std.proofs.Common.{◌≡◌, ℕ, ◌+◌, ◌*◌, ◌<◌, ◌≤◌, Bool, true, false, cond, List, get_or, set}
 use Rattle.std.proofs.Common.{refl, sym, ap, ◌∙◌, arith, lt_trans}
 use Rattle.reader.specs.Fields.{policy_role, policy_permission, policy_weight, policy_type, policy_context}
@@ -12,7 +11,7 @@ use Rattle.weights.proofs.Choice.{vacant, off_context, off_type}
 use Rattle.weights.proofs.Resolving.{Keeps, keeps_none, keeps_same, keeps_more, keeps_placed, kept_below}
 use Rattle.weights.proofs.Weigh.{light_chosen}
 use Rattle.weights.proofs.policies.choose.Goals as goal
-use Rattle.weights.proofs.policies.choose.Goals.{then-in_force+then-type_of-eq1, then-in_force+else-type_of-eq1}
+use Rattle.weights.proofs.policies.choose.Goals.{then-in_force+then-is_inherited, then-in_force+else-is_inherited}
 use Rattle.weights.proofs.policies.choose.Goals.{else-in_force}
 
 -- what is kept of the first i policies, of any type and of type 1
@@ -47,24 +46,21 @@ module _ {rules : List ℕ} {s : ℕ} {a own_kept inh_kept own inh : List ℕ} {
         keeps_more rules (in_force_by s) any_type a heavy on refl fine.role at_k small own_kept_is own_is turn.any
 
     -- of type 0
-    taken : (policy_type a i ≡ 1 → ⊥) → Turn rules s a own_kept' inh_kept own' inh (i + 1)
+    taken : type_one (policy_type a i) ≡ false → Turn rules s a own_kept' inh_kept own' inh (i + 1)
     taken other = record {
       any = any_more;
-      one =
-          keeps_same rules (in_force_by s) type_one a (off_type (in_force_by s) type_one a i (ne_eqb _ _ other))
-          turn.one;
+      one = keeps_same rules (in_force_by s) type_one a (off_type (in_force_by s) type_one a i other) turn.one;
     }
 
     -- of type 1
-    taken_both : {inh_kept' inh' : List ℕ} → policy_type a i ≡ 1 →
+    taken_both : {inh_kept' inh' : List ℕ} → type_one (policy_type a i) ≡ true →
         inh_kept' ≡ cond (taken_up rules a i inh_kept inh k) (set inh_kept k i) inh_kept →
         inh' ≡ cond (taken_up rules a i inh_kept inh k) (set inh k (policy_weight a i)) inh →
         Turn rules s a own_kept' inh_kept' own' inh' (i + 1)
     taken_both is inh_kept_is inh_is = record {
       any = any_more;
       one =
-          keeps_more rules (in_force_by s) type_one a heavy on (eq-eqb _ _ is) fine.role at_k small inh_kept_is inh_is
-          turn.one;
+          keeps_more rules (in_force_by s) type_one a heavy on is fine.role at_k small inh_kept_is inh_is turn.one;
     }
 
 -- a policy kept at the place k is in the table
@@ -90,8 +86,8 @@ take_up-requires c =
     let kept = there c.loop-i.invariant.any c.role.ensures.1 c.permission.ensures.1 at_place l in
     (small, omega arith, l, kept)
 
-pub take_up-requires-then-type_of-eq1 : goal.take_up-requires-then-type_of-eq1
-take_up-requires-then-type_of-eq1 c =
+pub take_up-requires-then-is_inherited : goal.take_up-requires-then-is_inherited
+take_up-requires-then-is_inherited c =
     let (at_place, small) = c.place_of-place.ensures in
     let (count_is, few) = c.count-i-end.ensures.count in
     let l = rw count_is at c.loop-i-test.true in
@@ -110,18 +106,18 @@ loop-i-preserved c =
     Turn c.args.list.now c.args.contexts c.args.a.now any.policy one.policy any.weight one.weight c.loop-i.i =
     record { any = h.any; one = h.one } in
     elim c.if-in_force.branch [
-      | then-in_force+then-type_of-eq1 w ↦
+      | then-in_force+then-is_inherited w ↦
           let small = w.place_of-place.ensures.1 in
           let is = rw (w.permission.ensures.0, w.role.ensures.0) at w.place_of-place.ensures.0 in
-          let one = rw w.type_of.ensures.0 at w.if-type_of-eq1.true in
+          let one = sym w.is_inherited.ensures.0 ∙ w.if-is_inherited.true in
           let own = w.take_up.ensures in
-          let inh = w.take_up-then-type_of-eq1.ensures in
+          let inh = w.take_up-then-is_inherited.ensures in
           let next = taken_both turn ok l (test ∙ w.if-in_force.true) is small own.0 own.1 one inh.0 inh.1 in
           rw (w.any-is, w.one-is) (record { any = next.any; one = next.one })
-      | then-in_force+else-type_of-eq1 w ↦
+      | then-in_force+else-is_inherited w ↦
           let small = w.place_of-place.ensures.1 in
           let is = rw (w.permission.ensures.0, w.role.ensures.0) at w.place_of-place.ensures.0 in
-          let other = rw w.type_of.ensures.0 at w.if-type_of-eq1.false in
+          let other = sym w.is_inherited.ensures.0 ∙ w.if-is_inherited.false in
           let own = w.take_up.ensures in
           let next = taken turn ok l (test ∙ w.if-in_force.true) is small own.0 own.1 other in
           rw (w.any-is, w.one-is) (record { any = next.any; one = next.one })
