@@ -209,7 +209,7 @@ fn put(given: Result<Sheet, Refusal>, sheet: &mut [u8; 14]) -> u32
     }
 }
 
-// 0, or the number of the refusal.
+// 0, or the number of the refusal. No `From`: neither a `Result` nor a `u32` is this crate's.
 fn number(given: Result<(), Refusal>) -> u32
     ensures { result ≡ number_of given }
 {
@@ -219,7 +219,7 @@ fn number(given: Result<(), Refusal>) -> u32
     }
 }
 
-// An answer as one number.
+// An answer as one number: what C gets of a `Result`; no `From`, as above.
 fn pack(given: Result<u32, Refused>) -> u64
     ensures { result ≡ packed (answer_from given) }
 {
