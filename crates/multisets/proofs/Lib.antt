@@ -6,6 +6,7 @@ pub mod Nexts
 pub mod Filling
 pub mod Reach
 pub mod Turned
+pub mod Writing
 pub mod Bytes
 pub mod Rows
 mod Reading
