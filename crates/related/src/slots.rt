@@ -8,7 +8,7 @@ ghost use Rattle.related.specs.Slots.{slot_of, number_at, named, related_slots, 
 use crate::clauses::ContextClauses;
 use std::array;
 
-// Inner: the place of a context number: 0 to 15, and 16 for 255, which the format writes for no context.
+// Inner: the place of a context number in the rows: its own, 0 to 15; 16 for 255, the base's number of no context.
 pub fn slot(number: u8) -> u8
     requires { (number ≤ 15) ⊎ (number ≡ 255) }
     ensures { (result ≡ slot_of number) × (result ≤ 16) }
@@ -16,13 +16,15 @@ pub fn slot(number: u8) -> u8
     if number == 255 { 16 } else { number }
 }
 
+// The context number whose place is s.
 fn number_at(s: u8) -> u8
     ensures { result ≡ number_at s }
 {
     if s == 16 { 255 } else { s }
 }
 
-// Inner: the set of the slots that the policies name.
+// Inner: the set of the slots that the policies name. It takes a table's bytes, since it asks less than `Policies`
+// promises: 256 permissions in place of 16.
 pub fn names(a: &[u8]) -> u32
     requires { policies_bad 8 256 a.now ≡ false }
     ensures { (s : ℕ) → in_set result s ≡ named a.now s }

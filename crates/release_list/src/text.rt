@@ -4,7 +4,7 @@ ghost use Rattle.std.specs.Prelude.{◌++◌};
 ghost use Rattle.release_list.specs.Text.{decimal, count_text, entry_text, line_text};
 ghost use Rattle.release_list.specs.Writing.{HasRoom, Put, standing_text, Rising, Parts, lines_text};
 
-// A buffer, and how much of it holds text.
+// A buffer, and how much of it holds text. The length stands beside it since the buffer is lent, and nothing allocated.
 #[derive(Drop)]
 pub struct Page<'a> {
     pub out: &'a mut [u8],

@@ -87,7 +87,8 @@ pub fn rules_of(list: &[u8]) -> [u8; 3]
     rules
 }
 
-// Inner: policy i of the table A goes before policy j by the rules of the list, or else by table order.
+// Inner: policy i of the table A goes before policy j by the rules of the list, or else by table order. It takes any
+// bytes that hold the two records, which asks less than `Policies` promises.
 pub fn goes_before(list: &[u8], a: &[u8], i: usize, j: usize) -> bool
     requires { (8 * i + 8 ≤ length a.now) × (8 * j + 8 ≤ length a.now) }
     ensures { result ≡ goes_before list.now a.now i j }
