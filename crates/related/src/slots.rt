@@ -23,8 +23,8 @@ fn number_at(s: u8) -> u8
     if s == 16 { 255 } else { s }
 }
 
-// Inner: the set of the slots that the policies name. It takes a table's bytes, for it asks for a check with 256
-// permissions, which is less than `Policies` promises.
+// Inner: the set of the slots that the policies name. It takes a table's bytes, since it asks less than `Policies`
+// promises: 256 permissions in place of 16.
 pub fn names(a: &[u8]) -> u32
     requires { policies_bad 8 256 a.now ≡ false }
     ensures { (s : ℕ) → in_set result s ≡ named a.now s }
