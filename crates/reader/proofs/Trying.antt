@@ -142,6 +142,11 @@ pub answer_more : (n x : ℕ) → 8 < n → parameter_answer n x ≡ parameter_a
 unfolding parameter_answer
 answer_more n x h = rw (lt-ltb _ _ h)
 
+-- the answer by the roles as they are read
+pub answer_read : {R : ℕ} (n x : ℕ) → R ≡ roles_read n → R ≤ 8 → parameter_answer R x ≡ parameter_answer n x
+unfolding parameter_answer
+answer_read {R} n x e few = rw (read_few R few, e)
+
 -- refusal 5 of a base is the answer 5 to the parameter of one of its users
 pub users_answered : (R : ℕ) (u : List ℕ) → R ≤ 8 →
     users_bad R u ≡ any_below (record_count users u) (λ i. eqb (parameter_answer R (parameter u i)).refusal 5)

@@ -1,7 +1,6 @@
 // Membership: a user's parameter against the roles' identity codes (refusal 5).
 ghost use Rattle.std.specs.Prelude.{true, ◌≡◌, ◌/◌, ◌≤◌, ◌<◌};
-ghost use Rattle.reader.specs.Codes.{codes, code_of, parameter_ok, code_divides, held_by};
-ghost use Rattle.reader.specs.Codes.{codes_tried, roles_read, parameter_answer};
+ghost use Rattle.reader.specs.Codes.{codes, code_of, parameter_ok, code_divides, held_by, roles_read, parameter_answer};
 ghost use Rattle.reader.specs.Refusals.{answer_from};
 ghost use Rattle.reader.specs.Rules.{users_bad};
 
@@ -33,38 +32,31 @@ fn quotient(r: usize, x: u32) -> u32
     x.wrapping_mul(INVERSES[r])
 }
 
-// What the check of one parameter tells: whether it passes, and how many codes were tried, which stands in both cases.
-#[derive(Clone, Copy)]
-struct Tried {
-    ok: bool,
-    tried: u8,
-}
-
 // Tries the codes of the roles below `roles` on the parameter, in role order: one that divides the rest is divided out.
 // Ends as soon as the rest is 1: then the parameter is the product of different codes.
-fn try_codes(x: u32, roles: u8) -> Tried
+fn try_codes(x: u32, roles: u8) -> Result<u32, Refused>
     requires { roles ≤ 8 }
-    ensures { (result.ok ≡ parameter_ok roles x) × (result.tried ≡ codes_tried roles x) }
+    ensures { answer_from result ≡ parameter_answer roles x }
 {
     let mut rest = x;
-    let mut tried: u8 = 0;
-    // By role: it indexes two tables, and is compared with the number of roles.
-    for r in 0..8usize {
+    let mut count: u32 = 0;
+    // By role: it indexes two tables.
+    for r in 0..usize::from(roles) {
         if rest == 1 {
-            return Tried { ok: true, tried };
+            return Ok(count);
         }
-        if usize::from(roles) <= r {
-            return Tried { ok: false, tried };
-        }
-        tried += 1;
+        count += 1;
         if code_divides(r, rest) {
             rest = quotient(r, rest);
         }
     }
-    Tried {
-        ok: rest == 1,
-        tried,
+    if rest != 1 {
+        return Err(Refused {
+            refusal: Refusal::Users,
+            count,
+        });
     }
+    Ok(count)
 }
 
 // The parameter is the product of different codes of roles below `roles`.
@@ -72,7 +64,7 @@ fn parameter_ok(x: u32, roles: u8) -> bool
     requires { roles ≤ 8 }
     ensures { result ≡ parameter_ok roles x }
 {
-    try_codes(x, roles).ok
+    try_codes(x, roles).is_ok()
 }
 
 // Roles above 8 are read as 8.
@@ -86,15 +78,7 @@ fn roles_read(roles: u32) -> u8
 pub fn check_parameter(parameter: u32, roles: u32) -> Result<u32, Refused>
     ensures { answer_from result ≡ parameter_answer roles parameter }
 {
-    let t = try_codes(parameter, roles_read(roles));
-    let count = t.tried as u32;
-    if t.ok {
-        return Ok(count);
-    }
-    Err(Refused {
-        refusal: Refusal::Users,
-        count,
-    })
+    try_codes(parameter, roles_read(roles))
 }
 
 // Inner: membership; false where the user or the role isn't there.

@@ -63,6 +63,13 @@ fn length_bad(base: &[u8]) -> bool
     base.len() < 36 || 2364 < base.len()
 }
 
+// Where a table lies, by the trailer: the byte where it starts, and how many records it has.
+#[derive(Clone, Copy)]
+struct Place {
+    offset: usize,
+    count: usize,
+}
+
 // A lent base that is long enough for a trailer, seen as its bytes.
 #[derive(Drop)]
 pub struct Trailer<'a> {
@@ -86,20 +93,17 @@ impl<'a> Trailer<'a> {
         Trailer { base }
     }
 
-    fn table_offset(&self, t: usize) -> usize
+    fn place(&self, t: usize) -> Place
         requires { t < 7 }
-        ensures { (result ≡ table_offset self.now t) × (result < 65536) }
+        ensures offset { (result.offset ≡ table_offset self.now t) × (result.offset < 65536) }
+        ensures count { (result.count ≡ table_count self.now t) × (result.count < 65536) }
     {
         let base = self.base;
-        bytes::get16(base, base.len() - 36 + 4 * t) as usize
-    }
-
-    fn table_count(&self, t: usize) -> usize
-        requires { t < 7 }
-        ensures { (result ≡ table_count self.now t) × (result < 65536) }
-    {
-        let base = self.base;
-        bytes::get16(base, base.len() - 36 + 4 * t + 2) as usize
+        let at = base.len() - 36 + 4 * t;
+        Place {
+            offset: bytes::get16(base, at) as usize,
+            count: bytes::get16(base, at + 2) as usize,
+        }
     }
 
     // Inner: R.
@@ -131,11 +135,11 @@ impl<'a> Trailer<'a> {
         let mut at: usize = 0;
         // Each table's end is where the next has to start.
         for (t, room) in ROOMS.iter().enumerate() {
-            let n = self.table_count(t);
-            if room.limit < n || self.table_offset(t) != at {
+            let place = self.place(t);
+            if room.limit < place.count || place.offset != at {
                 return true;
             }
-            at = at + n * room.width;
+            at += place.count * room.width;
         }
         at != self.base.len() - 36
     }
@@ -197,10 +201,10 @@ impl<'a> Frame<'a> {
         ensures framed { frame_refusal self.now ≡ 0 }
     {
         let trailer = &self.trailer;
-        let a = trailer.table_offset(t);
-        let e = a + trailer.table_count(t) * room_of(t).width;
+        let place = trailer.place(t);
+        let end = place.offset + place.count * room_of(t).width;
         let base = trailer.base;
-        &base[a..e]
+        &base[place.offset..end]
     }
 
     // Inner: a table.

@@ -1,10 +1,7 @@
-use Rattle.reader.specs.Codes.{parameter_answer}
+-- So many roles as are read are read as they are.
+use Rattle.std.proofs.Common.{◌∙◌}
+use Rattle.reader.proofs.Trying.{answer_read}
 use Rattle.reader.proofs.codes.check_parameter.Goals as goal
 
-pub returns-then-t : goal.returns-then-t
-unfolding parameter_answer
-returns-then-t c = let told = c.try_codes-t.ensures in rw (← c.roles_read.ensures.0, ← told.0, ← told.1, c.if-t.true)
-
 pub returns : goal.returns
-unfolding parameter_answer
-returns c = let told = c.try_codes-t.ensures in rw (← c.roles_read.ensures.0, ← told.0, ← told.1, c.if-t.false)
+returns c = c.try_codes.ensures ∙ answer_read _ _ c.roles_read.ensures.0 c.roles_read.ensures.1

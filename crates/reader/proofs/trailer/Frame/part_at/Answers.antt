@@ -1,8 +1,8 @@
 -- The trailer's offset and count of table t give the part that `table_of` names; `Frame` says that it lies in the base.
-use Rattle.std.proofs.Common.{ℕ, ◌+◌, ◌-◌, ◌*◌, ◌<◌, ◌≤◌, List, ◌≡◌, ◌∙◌, ap, length, arith, rules}
+use Rattle.std.proofs.Common.{ℕ, ◌+◌, ◌-◌, ◌*◌, ◌<◌, ◌≤◌, List, ◌≡◌, ◌∙◌, ap, length, arith}
 use native.Mathlib.Nat.{add-sub_cancel_left}
 use Rattle.reader.specs.Tables.{width, table_offset, table_count, frame_refusal, part_of, table_of}
-use Rattle.reader.proofs.Frame.{framed, table_end, table_is}
+use Rattle.reader.proofs.Frame.{table_end, table_is}
 use Rattle.reader.proofs.trailer.Frame.part_at.Goals as goal
 use Rattle.reader.proofs.trailer.Frame.part_at.Goals.{After-room_of}
 
@@ -21,31 +21,25 @@ module _ {b : List ℕ} {t a n w : ℕ} (r : Read b t a n w) where
   is_table : part_of b a (a + n * w - a) ≡ table_of b t
   is_table = rw (table_is b r.ok t r.there, add-sub_cancel_left, r.a_is, r.n_is, r.w_is)
 
--- after the three calls, that is read
+-- after the two calls, that is read
 read : (c : After-room_of) →
-    Read c.self.inside.trailer c.args.t c.table_offset-a.result c.table_count.result c.room_of.result.width
+    Read c.self.inside.trailer c.args.t c.place-place.result.offset c.place-place.result.count c.room_of.result.width
 read c =
     record {
       ok = c.self.invariant;
       there = c.requires;
-      a_is = c.table_offset-a.ensures.0;
-      n_is = c.table_count.ensures.0;
+      a_is = c.place-place.ensures.offset.0;
+      n_is = c.place-place.ensures.count.0;
       w_is = c.room_of.ensures.0;
     }
-
-pub table_offset-a-requires : goal.table_offset-a-requires
-table_offset-a-requires c = let f = framed _ c.self.invariant in search rules
-
-pub table_count-requires : goal.table_count-requires
-table_count-requires c = let f = framed _ c.self.invariant in search rules
 
 pub slice_bounds-result-end : goal.slice_bounds-result-end
 slice_bounds-result-end c = rw c.trailer.view_is (inside (read (goal.at.slice_bounds-result-end c).After-room_of))
 
 pub returns-clause-table : goal.returns-clause-table
 returns-clause-table c =
-    let a = c.table_offset-a.result in
-    let n = c.table_count.result * c.room_of.result.width in
+    let a = c.place-place.result.offset in
+    let n = c.place-place.result.count * c.room_of.result.width in
     ap (λ (b : List ℕ). part_of b a (a + n - a)) c.trailer.view_is
     ∙ is_table (read (goal.at.returns-clause-table c).After-room_of)
     ∙ ap (λ (b : List ℕ). table_of b c.args.t) c.self.view_is

@@ -11,8 +11,8 @@ use Rattle.reader.specs.declared.trailer.TheConstants.{ROOMS}
 use Rattle.reader.proofs.Frame.{records_size}
 use Rattle.reader.proofs.trailer.Trailer.tables_bad.Invariants.{Turn}
 use Rattle.reader.proofs.trailer.Trailer.tables_bad.Goals as goal
-use Rattle.reader.proofs.trailer.Trailer.tables_bad.Goals.{then-room-n-via-then-room-n}
-use Rattle.reader.proofs.trailer.Trailer.tables_bad.Goals.{then-room-n-via-else-room-n+then-table_offset-at}
+use Rattle.reader.proofs.trailer.Trailer.tables_bad.Goals.{then-room-place-via-then-room-place}
+use Rattle.reader.proofs.trailer.Trailer.tables_bad.Goals.{then-room-place-via-else-room-place+then-place-at}
 
 -- a room of the table of rooms
 width_is : (t : ℕ) → t < 7 → (slice_index_or ROOMS t (record { width = 0; limit = 0 })).width ≡ width t
@@ -69,28 +69,28 @@ last {t = t} turn past =
 pub loop-t-init : goal.loop-t-init
 loop-t-init c = first _
 
-pub returns-then-room-n : goal.returns-then-room-n
-returns-then-room-n c =
+pub returns-then-room-place : goal.returns-then-room-place
+returns-then-room-place c =
     let turn = c.loop-t.invariant in
     let there = c.loop-t-test.true in
-    let n_is = c.table_count-n.ensures.0 in
+    let n_is = c.place-place.ensures.count.0 in
     let most_is = limit_is _ there in
-    elim c.then-room-n.branch [
-      | then-room-n-via-then-room-n w ↦ over turn there n_is most_is w.if-room-n.true
-      | then-room-n-via-else-room-n+then-table_offset-at w ↦
-          apart turn there n_is most_is w.if-room-n.false w.table_offset.ensures.0 w.if-table_offset-at.true
+    elim c.then-room-place.branch [
+      | then-room-place-via-then-room-place w ↦ over turn there n_is most_is w.if-room-place.true
+      | then-room-place-via-else-room-place+then-place-at w ↦
+          apart turn there n_is most_is w.if-room-place.false c.place-place.ensures.offset.0 w.if-place-at.true
     ]
 
 pub loop-t-preserved : goal.loop-t-preserved
 loop-t-preserved c =
     let turn = c.loop-t.invariant in
     let there = c.loop-t-test.true in
-    let n_is = c.table_count-n.ensures.0 in
+    let n_is = c.place-place.ensures.count.0 in
     let most_is = limit_is _ there in
     let w_is = width_is _ there in
-    let few = c.if-room-n.false in
+    let few = c.if-room-place.false in
     again turn there
-    (in_place turn there n_is most_is few c.table_offset.ensures.0 c.if-table_offset-at.false)
+    (in_place turn there n_is most_is few c.place-place.ensures.offset.0 c.if-place-at.false)
     (size there few most_is w_is) n_is w_is
 
 pub returns : goal.returns
