@@ -41,7 +41,7 @@ pub fn cover_sets(juniors: &[u8; 8], a: &Policies<'_>) -> [u8; 64]
     ensures { (h : List ℕ) → Juniors h juniors.now → Covers h a.now result }
 {
     let mut sets = [0; 64];
-    filling::fill(&mut sets, a.count(), |i| cover(a, i, juniors));
+    filling::fill(&mut sets[..a.count()], |i| cover(a, i, juniors));
     sets
 }
 

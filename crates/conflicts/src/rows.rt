@@ -48,13 +48,9 @@ impl Conflicts {
         ensures firsts { result.firsts ≡ firsts }
         ensures rows { (i : ℕ) → i < firsts → F.post make i (get_or result.rows i 0) }
     {
-        let mut found = Conflicts {
-            kind,
-            firsts,
-            rows: [0; 64],
-        };
-        filling::fill(&mut found.rows, firsts, make);
-        found
+        let mut rows = [0; 64];
+        filling::fill(&mut rows[..firsts], make);
+        Conflicts { kind, firsts, rows }
     }
 }
 

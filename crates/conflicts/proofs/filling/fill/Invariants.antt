@@ -7,4 +7,4 @@ pub record Made {A : Type 0} (Q : ℕ → A → Type 0) (n i : ℕ) (items : Lis
   pub each : (k : ℕ) (other : A) → k < i → Q k (get_or items k other)
 
 abbrev pub invariant-loop-i : goal.invariant-loop-i
-invariant-loop-i g l = Made (goal.F-post g l.make) (length l.initial.place-items) l.i l.place-items
+invariant-loop-i g l = Made (goal.F-post g l.make) (length l.initial.places) l.i l.places
