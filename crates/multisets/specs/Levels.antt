@@ -42,7 +42,6 @@ GrownTo users k reached = Grown users.d users.nexts k reached.rows reached.ends 
 pub record Pushing (d : ℕ) (nexts up : List ℕ) (i next : ℕ) (ends from : List ℕ) : Type 0 where
   pub n : ℕ
   pub m : ℕ
-  pub most : d ≤ 8
   pub few : n ≤ 5
   pub some : m < starts n d
   pub place : i ≡ first d n + m

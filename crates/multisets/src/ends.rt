@@ -27,6 +27,7 @@ impl Model for Nexts {
 pub struct Users {
     pub d: usize,
     pub nexts: Nexts,
+    pub ghost most: { d ≤ 8 },
 }
 
 impl Nexts {

@@ -95,7 +95,7 @@ impl<const ROWS: usize, const PLACES: usize> Reached<ROWS, PLACES> {
     // compiler makes the rows number by number.
     #[inline(never)]
     fn block(&mut self, users: &Users, n: usize, r: usize)
-        requires { (n ≤ 4) × (users.now.d ≤ 8) × (r < users.now.d)
+        requires { (n ≤ 4) × (r < users.now.d)
             × GrownTo users.now (first users.now.d (suc n) + starts (suc n) r) self.old }
         ensures { GrownTo users.now (first users.now.d (suc n) + starts (suc n) (suc r)) self.new }
     {
@@ -114,7 +114,7 @@ impl<const ROWS: usize, const PLACES: usize> Reached<ROWS, PLACES> {
 
     // From the multisets of n + 1 roles.
     fn level(&mut self, users: &Users, n: usize)
-        requires { (n ≤ 4) × (users.now.d ≤ 8) × GrownTo users.now (first users.now.d (suc n)) self.old }
+        requires { (n ≤ 4) × GrownTo users.now (first users.now.d (suc n)) self.old }
         ensures { GrownTo users.now (first users.now.d (suc (suc n))) self.new }
     {
         // A role is a number here, and each block changes the tables.
@@ -125,7 +125,7 @@ impl<const ROWS: usize, const PLACES: usize> Reached<ROWS, PLACES> {
 
     // From the empty multiset.
     fn none(&mut self, users: &Users)
-        requires { (users.now.d ≤ 8) × GrownTo users.now (first users.now.d 0) self.old }
+        requires { GrownTo users.now (first users.now.d 0) self.old }
         ensures { GrownTo users.now (first users.now.d 1) self.new }
     {
         let up = [0u16, 1, 2, 3, 4, 5, 6, 7];
@@ -135,7 +135,7 @@ impl<const ROWS: usize, const PLACES: usize> Reached<ROWS, PLACES> {
 
     // Inner: the least ends of the multisets of n + 1 roles, from those of n.
     pub fn grow(&mut self, users: &Users, n: usize)
-        requires { (n ≤ 5) × (users.now.d ≤ 8) × GrownTo users.now (first users.now.d n) self.old }
+        requires { (n ≤ 5) × GrownTo users.now (first users.now.d n) self.old }
         ensures { GrownTo users.now (first users.now.d (suc n)) self.new }
     {
         if n == 0 {

@@ -89,7 +89,6 @@ module _ {d n r less here next last : ℕ} {fixed kept nexts : List ℕ} {j : �
       record {
         n = suc n;
         m = starts (suc n) r + j;
-        most = b.most;
         few = omega arith;
         some = some_here;
         place = place;

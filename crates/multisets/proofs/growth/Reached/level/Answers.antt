@@ -9,7 +9,7 @@ level_start : (d n : ℕ) → first d (suc n) + starts (suc n) 0 ≡ first d (su
 level_start d n = rw (starts_none n) (omega arith)
 
 pub loop-r-init : goal.loop-r-init
-loop-r-init g c = rw (level_start c.args.users.now.d c.args.n) c.requires.2
+loop-r-init g c = rw (level_start c.args.users.now.d c.args.n) c.requires.1
 
 pub returns : goal.returns
 returns g c =

@@ -34,11 +34,10 @@ module _ {d : ℕ} {nexts t ends from : List ℕ} (g : Grown d nexts (first d 0)
   start : Grown d nexts 0 t ends from
   start = rw (first_0 d) at g
 
-  pushing : d ≤ 8 → Pushing d nexts row 0 1 ends from
-  pushing most = record {
+  pushing : Pushing d nexts row 0 1 ends from
+  pushing = record {
     n = 0;
     m = 0;
-    most = most;
     few = omega arith;
     some = one;
     place = sym (add-zero (first d 0) ∙ first_0 d);
@@ -56,12 +55,12 @@ module _ {d : ℕ} {nexts t ends from : List ℕ} (g : Grown d nexts (first d 0)
   })
 
 pub keep_row-requires : goal.keep_row-requires
-keep_row-requires g c = (λ h. room c.requires.1, omega arith)
+keep_row-requires g c = (λ h. room c.requires, omega arith)
 
 pub push-requires : goal.push-requires
-push-requires g c = (search rules, pushing c.requires.1 c.requires.0)
+push-requires g c = (search rules, pushing c.requires)
 
 pub returns : goal.returns
 returns g c =
     let (filled, rows) = c.push.ensures in
-    grown c.requires.1 (rw (← rows) at (c.keep_row.ensures.0 (omega arith))) filled
+    grown c.requires (rw (← rows) at (c.keep_row.ensures.0 (omega arith))) filled

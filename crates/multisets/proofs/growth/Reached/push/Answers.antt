@@ -15,12 +15,13 @@ use Rattle.multisets.proofs.growth.Reached.push.Invariants.{row, Turn}
 use Rattle.multisets.proofs.growth.Reached.push.Goals as goal
 
 -- a place that leads on is one of 1,287
-module _ {d : ℕ} {nexts up : List ℕ} {i next : ℕ} {ends from : List ℕ} (p : Pushing d nexts up i next ends from) where
+module _ {d : ℕ} {nexts up : List ℕ} {i next : ℕ} {ends from : List ℕ} (most : d ≤ 8)
+    (p : Pushing d nexts up i next ends from) where
   place_few : i < 1287
   place_few =
       let is = p.place in
       let few = p.few in
-      omega (arith, place_lt d p.n p.m p.some, first_le d (suc p.n) 6 (omega arith), first_five d p.most)
+      omega (arith, place_lt d p.n p.m p.some, first_le d (suc p.n) 6 (omega arith), first_five d most)
 
   place_there : i < length ends
   place_there =
@@ -44,7 +45,7 @@ module _ {d : ℕ} {nexts up : List ℕ} {i next : ℕ} {ends from : List ℕ} (
         length-take d (drop (8 * end) nexts),
         length-drop (8 * end) nexts,
         table.size,
-        p.most,
+        most,
         first_end h,
       )
 
@@ -66,8 +67,8 @@ module _ (xs : List ℕ) (q : ℕ) {rest : List ℕ} (left : rest ≡ drop q xs)
     next_left {l} one = rw one (ap (drop 1) (sym cut ∙ left) ∙ drop-drop 1 q xs)
 
 -- one turn, of plain values
-module _ {d : ℕ} {nexts up : List ℕ} {i next : ℕ} {ends₀ from₀ : List ℕ} (p : Pushing d nexts up i next ends₀ from₀)
-    (table : NextTable nexts) {end q : ℕ} {rest rest_up ends from : List ℕ}
+module _ {d : ℕ} {nexts up : List ℕ} {i next : ℕ} {ends₀ from₀ : List ℕ} (most : d ≤ 8)
+    (p : Pushing d nexts up i next ends₀ from₀) (table : NextTable nexts) {end q : ℕ} {rest rest_up ends from : List ℕ}
     (turn : Turn d nexts up i end q rest rest_up ends from) {x ahead : ℕ} {after after_up : List ℕ}
     (cut : (rest ≡ x ∷ after) × (rest_up ≡ ahead ∷ after_up)) where
   role : q < d
@@ -86,7 +87,6 @@ module _ {d : ℕ} {nexts up : List ℕ} {i next : ℕ} {ends₀ from₀ : List 
 
   there : next + ahead ≡ first d (suc p.n) + more p.n p.m q
   there =
-      let most = p.most in
       let low = role in
       let e = p.ups.role q (omega arith) in
       let z : get_or up q 0 + p.m ≡ more p.n p.m q = rw (zero-add q) at e in
@@ -101,17 +101,17 @@ module _ {d : ℕ} {nexts up : List ℕ} {i next : ℕ} {ends₀ from₀ : List 
       ∙ get_or-drop (8 * end) nexts q 0 ∙ rw is_end
 
   target_lt : next + ahead < first d 7
-  target_lt = at_within p.most turn.filled table grows small there is_next
+  target_lt = at_within most turn.filled table grows small there is_next
 
   turn_more : {k l : ℕ} → k ≡ q → l ≡ q + 1 → {ends' from' : List ℕ} →
       Relaxed ends from (next + ahead) x (8 * i + k) ends' from' → Turn d nexts up i end l after after_up ends' from'
   turn_more {l = l} is one read =
       let r = rw is at read in
       let past : 8 * i + l ≡ 8 * i + q + 1 = omega arith in
-      let same = end_stays p.most turn.filled table grows small there is_next r in
+      let same = end_stays most turn.filled table grows small there is_next r in
       record {
         within = omega (arith, role);
-        filled = rw past (filled_more p.most turn.filled table grows small there is_next r);
+        filled = rw past (filled_more most turn.filled table grows small there is_next r);
         stays = rw p.place (same ∙ is_end);
         reached = turn.reached;
         left = next_left (row d nexts end) q turn.left cut.0 one;
@@ -119,29 +119,28 @@ module _ {d : ℕ} {nexts up : List ℕ} {i next : ℕ} {ends₀ from₀ : List 
       }
 
 -- where nothing is left of the row or of the numbers, every role had its turn
-module _ {d : ℕ} {nexts up : List ℕ} {i next : ℕ} {ends₀ from₀ : List ℕ} (p : Pushing d nexts up i next ends₀ from₀)
-    (table : NextTable nexts) {q : ℕ} {rest rest_up ends from : List ℕ}
+module _ {d : ℕ} {nexts up : List ℕ} {i next : ℕ} {ends₀ from₀ : List ℕ} (most : d ≤ 8)
+    (p : Pushing d nexts up i next ends₀ from₀) (table : NextTable nexts) {q : ℕ} {rest rest_up ends from : List ℕ}
     (turn : Turn d nexts up i (get_or ends₀ i 0) q rest rest_up ends from) where
   row_done : length rest ≡ 0 → d ≤ q
   row_done none =
       let l = none_left (row d nexts (get_or ends₀ i 0)) q turn.left none in
-      omega (arith, l, row_length p table turn.reached)
+      omega (arith, l, row_length most p table turn.reached)
 
   ups_done : length rest_up ≡ 0 → d ≤ q
-  ups_done none = omega (arith, none_left up q turn.left_up none, p.size, p.most)
+  ups_done none = omega (arith, none_left up q turn.left_up none, p.size, most)
 
   led_on : d ≤ q → Filled d nexts (8 * i + 8) ends from
   led_on done =
       let is = p.place in
       let within = turn.within in
-      let most = p.most in
-      filled_past p.most turn.filled p.n p.m (8 * i + 8) p.some p.few (omega arith) (omega arith) (omega arith)
+      filled_past most turn.filled p.n p.m (8 * i + 8) p.some p.few (omega arith) (omega arith) (omega arith)
 
 pub bounds-self-i : goal.bounds-self-i
-bounds-self-i g c = let there = place_there c.requires in search rules
+bounds-self-i g c = let there = place_there c.args.users.now.most c.requires in search rules
 
 pub behind-row-requires : goal.behind-row-requires
-behind-row-requires g c = (first_end c.requires (omega arith), c.requires.most)
+behind-row-requires g c = (first_end c.args.users.now.most c.requires (omega arith), c.args.users.now.most)
 
 pub loop-q-init : goal.loop-q-init
 loop-q-init g c =
@@ -164,35 +163,41 @@ loop-q-init g c =
 
 pub overflow_add-next : goal.overflow_add-next
 overflow_add-next g c =
-    let l = target_lt c.requires c.behind-row.ensures.table c.loop-q.invariant.turn c.in-Some.ensures.steps.0 in
-    omega (arith, l, first_all _ c.requires.most)
+    let table = c.behind-row.ensures.table in
+    let l = target_lt c.args.users.now.most c.requires table c.loop-q.invariant.turn c.in-Some.ensures.steps.0 in
+    omega (arith, l, first_all _ c.args.users.now.most)
 
 pub overflow_mul-i : goal.overflow_mul-i
-overflow_mul-i g c = omega (arith, place_few c.requires)
+overflow_mul-i g c = omega (arith, place_few c.args.users.now.most c.requires)
 
 pub overflow_add-i : goal.overflow_add-i
 overflow_add-i g c =
     let (cut, is, next, fits) = c.in-Some.ensures.steps in
     let table = c.behind-row.ensures.table in
-    omega (arith, role c.requires table c.loop-q.invariant.turn cut, c.requires.most, place_few c.requires)
+    let most = c.args.users.now.most in
+    omega (arith, role most c.requires table c.loop-q.invariant.turn cut, most, place_few most c.requires)
 
 pub overflow_cast-i : goal.overflow_cast-i
 overflow_cast-i g c =
     let (cut, is, next, fits) = c.in-Some.ensures.steps in
     let table = c.behind-row.ensures.table in
-    omega (arith, role c.requires table c.loop-q.invariant.turn cut, c.requires.most, place_few c.requires)
+    let most = c.args.users.now.most in
+    omega (arith, role most c.requires table c.loop-q.invariant.turn cut, most, place_few most c.requires)
 
 pub relax-requires : goal.relax-requires
 relax-requires g c =
     let f = c.loop-q.invariant.turn.filled in
-    let l = target_lt c.requires c.behind-row.ensures.table c.loop-q.invariant.turn c.in-Some.ensures.steps.0 in
+    let table = c.behind-row.ensures.table in
+    let l = target_lt c.args.users.now.most c.requires table c.loop-q.invariant.turn c.in-Some.ensures.steps.0 in
     (omega (arith, l, f.room), omega (arith, l, f.places))
 
 pub loop-q-preserved : goal.loop-q-preserved
 loop-q-preserved g c =
     let (cut, is, next, fits) = c.in-Some.ensures.steps in
+    let table = c.behind-row.ensures.table in
+    let most = c.args.users.now.most in
     record {
-      turn = turn_more c.requires c.behind-row.ensures.table c.loop-q.invariant.turn cut is next c.relax.ensures;
+      turn = turn_more most c.requires table c.loop-q.invariant.turn cut is next c.relax.ensures;
       rows = c.loop-q.invariant.rows;
     }
 
@@ -201,5 +206,7 @@ returns g c =
     let p = c.requires in
     let table = c.behind-row.ensures.table in
     let turn = c.loop-q.invariant.turn in
-    let done = ⊎_elim (λ r. row_done p table turn r.1.0) (λ r. ups_done p table turn r.1.0) c.in-None.ensures.steps.0 in
-    (led_on p table turn done, c.loop-q.invariant.rows)
+    let most = c.args.users.now.most in
+    let steps = c.in-None.ensures.steps.0 in
+    let done = ⊎_elim (λ r. row_done most p table turn r.1.0) (λ r. ups_done most p table turn r.1.0) steps in
+    (led_on most p table turn done, c.loop-q.invariant.rows)

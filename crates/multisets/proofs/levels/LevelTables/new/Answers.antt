@@ -49,7 +49,7 @@ begun {d} {rows} {places} {nexts} most table few room = record {
 pub bounds-ends-0 : goal.bounds-ends-0
 bounds-ends-0 g c = let some = one_room c.args.d in let room : 0 < g.row.PLACES = omega arith in search rules
 
-pub invariant_of-result : goal.invariant_of-result
-invariant_of-result g c =
+pub invariant_of-result-2 : goal.invariant_of-result-2
+invariant_of-result-2 g c =
     let (most, rows, places) = c.requires in
     record { laid = begun most (rw c.nexts.view_is at c.nexts.invariant) rows places }
