@@ -8,6 +8,7 @@ ghost use Rattle.reader.specs.Codes.{parameter_answer};
 ghost use Rattle.report.specs.Report.{answer_of, answer_lent, ReportedOf, ReportedLent};
 ghost use Rattle.report.specs.Demand.{Demanded, DemandedLent};
 ghost use Rattle.conflicts.specs.Conflicts.{conflict_answer, conflict_bytes};
+ghost use Rattle.exports.specs.Contexts.{at};
 ghost use Rattle.exports.specs.Packed.{packed, unpacked};
 ghost use Rattle.decision.specs.Decision.{decision_of, decision_lent};
 ghost use Rattle.sheet.specs.Sheets.{opened, signed, withdrawn, asked};
@@ -37,8 +38,7 @@ pub extern "C" fn release_decide(
     zone: u32,
     group: &[u8],
 ) -> u32
-    ensures { result ≡ decision_of base.now (record { minute = minute; day = day; zone = zone })
-        permission group.now }
+    ensures { result ≡ decision_of base.now (at minute day zone) permission group.now }
 {
     let at = Context { minute, day, zone };
     number(decision::decide(base, permission, at, group))
@@ -55,12 +55,9 @@ pub extern "C" fn release_report(
     zone: u32,
     out: &mut [u8],
 ) -> u64
-    ensures answer { result ≡ packed (answer_of base.now (record { minute = minute; day = day; zone = zone })
-        (length out.old)) }
-    ensures promise { ReportedOf base.now (record { minute = minute; day = day; zone = zone })
-        out.old out.new (unpacked result) }
-    ensures demand { Demanded base.now (record { minute = minute; day = day; zone = zone })
-        out.old out.new (unpacked result) }
+    ensures answer { result ≡ packed (answer_of base.now (at minute day zone) (length out.old)) }
+    ensures promise { ReportedOf base.now (at minute day zone) out.old out.new (unpacked result) }
+    ensures demand { Demanded base.now (at minute day zone) out.old out.new (unpacked result) }
 {
     let at = Context { minute, day, zone };
     pack(report::report(base, at, out))
@@ -78,8 +75,7 @@ pub extern "C" fn release_decide_by(
     list: &[u8],
     group: &[u8],
 ) -> u32
-    ensures { result ≡ decision_lent list.now base.now (record { minute = minute; day = day; zone = zone })
-        permission group.now }
+    ensures { result ≡ decision_lent list.now base.now (at minute day zone) permission group.now }
 {
     let at = Context { minute, day, zone };
     number(decision::decide_by(base, permission, at, list, group))
@@ -96,12 +92,9 @@ pub extern "C" fn release_report_by(
     list: &[u8],
     out: &mut [u8],
 ) -> u64
-    ensures answer { result ≡ packed (answer_lent list.now base.now
-        (record { minute = minute; day = day; zone = zone }) (length out.old)) }
-    ensures promise { ReportedLent list.now base.now (record { minute = minute; day = day; zone = zone })
-        out.old out.new (unpacked result) }
-    ensures demand { DemandedLent list.now base.now (record { minute = minute; day = day; zone = zone })
-        out.old out.new (unpacked result) }
+    ensures answer { result ≡ packed (answer_lent list.now base.now (at minute day zone) (length out.old)) }
+    ensures promise { ReportedLent list.now base.now (at minute day zone) out.old out.new (unpacked result) }
+    ensures demand { DemandedLent list.now base.now (at minute day zone) out.old out.new (unpacked result) }
 {
     let at = Context { minute, day, zone };
     pack(report::report_by(base, at, list, out))
@@ -169,8 +162,7 @@ pub extern "C" fn release_sheet_ask(
     zone: u32,
     sheet: &[u8; 14],
 ) -> u32
-    ensures { result ≡ asked base.now (sheet_of sheet.now)
-        (record { minute = minute; day = day; zone = zone }) }
+    ensures { result ≡ asked base.now (sheet_of sheet.now) (at minute day zone) }
 {
     let at = Context { minute, day, zone };
     number(sheet::ask(base, Sheet::from(sheet), at))
