@@ -42,7 +42,7 @@ impl Striking<'_> {
             value,
         } = k.condition(i, j);
         let asked = &mut self.asked;
-        // by the attribute's byte, any of 256 where it is read: an enum would put four arms in front of these
+        // by the attribute's number, 0 to 3: a match of four arms would make an enum of it, for these four to match
         match attribute {
             0 => strike_unmet(&mut asked.entries, operator, value, others),
             1 => strike_unmet(&mut self.sums[..], operator, value, others),
@@ -68,7 +68,8 @@ impl Striking<'_> {
             × NarrowedAll k.now own own (length self.old.sums.now) self.old.asked self.old.sums.now }
         ensures { AllStruck k.now own self.old self.new }
     {
-        // the library has no iterator over the bits of a number
+        // The library has no iterator over the bits of a number. No `(0..64).filter(..)`: by reckoning, 64 tests for each
+        // permission take the small shop's report past 1.15 times the twin's instructions.
         let mut rest = own;
         while rest != 0 {
             let i = some_clause(rest);
