@@ -4,7 +4,7 @@ use Rattle.masks.specs.declared.asked.Striking.{Striking}
 use Rattle.masks.specs.Clauses.{StruckAll, NarrowedAll}
 
 -- of the masks of each attribute, those of which the test doesn't hold keep only the clauses of `others`; `same` says
--- that the masks lent are the same
+-- that before and after the masks of the sums are of the same loan
 pub record StruckOut (stays : ℕ → ℕ → Bool) (others : ℕ) (was now : Striking) : Type 0 where
   pub same : now.sums.ghost_name ≡ was.sums.ghost_name
   pub all : StruckAll (length was.sums.now) stays others was.asked was.sums.now now.asked now.sums.now

@@ -24,6 +24,7 @@ pub fn rows_for(
         × (placed.sum + (6 - placed.count) * weighed.heavy + 1 ≤ length sums.now) }
     ensures { Rows entries.now placed.count placed.sum weighed.light weighed.heavy reached sums.now result }
 {
+    // behind the last number of entries no sums are to be joined, so `array::from_fn` would test each place
     let mut rows = [0; 7];
     for (n, row) in rows[..7 - placed.count].iter_mut().enumerate() {
         let number = placed.count + n;

@@ -15,6 +15,7 @@ pub fn role_counts(counts: &mut [u8; 256], end: usize)
     requires { end ≤ 256 }
     ensures { RoleCounts end counts.new }
 {
+    // no `array::from_fn`: it counts all 256, and takes the small shop's report past 1.15 times the twin's instructions
     for (v, count) in counts[..end].iter_mut().enumerate() {
         *count = conditions::role_num(v as u8) as u8;
     }
@@ -49,6 +50,7 @@ fn add_role(sets: &mut [u64], half: usize, without: u64, with: u64)
 {
     let (low, rest) = sets.split_at_mut(half);
     let high = &mut rest[..half];
+    // by place in `high`: of what `iter_mut().zip(..)` writes no proof would know
     for (v, mask) in low.iter_mut().enumerate() {
         high[v] = *mask & with;
         *mask &= without;
