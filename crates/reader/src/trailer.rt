@@ -160,6 +160,7 @@ impl<'a> Trailer<'a> {
 pub struct Numbers {
     pub roles: u8,
     pub permissions: u8,
+    ghost few: { roles ≤ 8 },
 }
 
 // A lent base that passed 1 to 3, so that its tables can be read; seen as its bytes.
@@ -239,8 +240,7 @@ impl<'a> Frame<'a> {
 
     // Inner: R and the number of permissions.
     pub fn numbers(&self) -> Numbers
-        ensures { (result.roles ≡ role_count self.now) × (result.roles ≤ 8)
-            × (result.permissions ≡ permission_count self.now) }
+        ensures { (result.roles ≡ role_count self.now) × (result.permissions ≡ permission_count self.now) }
     {
         Numbers {
             roles: self.role_count(),
