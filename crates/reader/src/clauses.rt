@@ -60,7 +60,7 @@ impl Condition for GroupCondition {
 }
 
 fn clause_bad(k: &[u8], i: usize, numbers: Numbers) -> bool
-    requires { (16 * i + 16 ≤ length k.now) × (numbers.roles ≤ 8) }
+    requires { 16 * i + 16 ≤ length k.now }
     ensures { result ≡ clause_bad numbers.roles numbers.permissions k.now i }
 {
     (numbers.permissions <= k[16 * i]) | rest_bad::<GroupCondition>(k, i, numbers.roles)
@@ -68,7 +68,6 @@ fn clause_bad(k: &[u8], i: usize, numbers: Numbers) -> bool
 
 // Inner: refusal 6.
 pub(crate) fn clauses_bad(k: &[u8], numbers: Numbers) -> bool
-    requires { numbers.roles ≤ 8 }
     ensures { result ≡ clauses_bad numbers.roles numbers.permissions k.now }
 {
     (0..k.len() / 16).any(|i| clause_bad(k, i, numbers))

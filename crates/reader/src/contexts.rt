@@ -45,12 +45,9 @@ impl Condition for ContextCondition {
         }
     }
 
+    #[tactic(auto, unfolding(crate::specs::Rules::context_condition_bad))]
     fn is_bad(self, _roles: u8) -> bool {
-        if 2 < self.parameter {
-            true
-        } else {
-            (5 < self.operator) | (RANGES[usize::from(self.parameter)] <= self.value)
-        }
+        2 < self.parameter || 5 < self.operator || RANGES[usize::from(self.parameter)] <= self.value
     }
 
     fn is_nonzero(self) -> bool {

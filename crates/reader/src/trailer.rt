@@ -57,10 +57,11 @@ fn room_of(t: usize) -> Room
 }
 
 // Refusal 1.
+#[tactic(auto, unfolding(crate::specs::Tables::length_bad))]
 fn length_bad(base: &[u8]) -> bool
     ensures { result ≡ length_bad base.now }
 {
-    base.len() < 36 || 2364 < base.len()
+    !(36..=2364).contains(&base.len())
 }
 
 // Where a table lies, by the trailer: the byte where it starts, and how many records it has.
@@ -121,19 +122,20 @@ impl<'a> Trailer<'a> {
         !self.base.ends_with(b"LCAP")
     }
 
-    // The three zero bytes after R: with R as the lowest byte, the number in the four is R.
+    // The three zero bytes after R, before the letters.
     fn reserved_bad(&self) -> bool
         ensures { result ≡ reserved_bad self.now }
     {
         let base = self.base;
-        bytes::get32(base, base.len() - 8) != u32::from(self.role_count())
+        !base[..base.len() - 4].ends_with(&[0; 3])
     }
 
     fn tables_bad(&self) -> bool
         ensures { result ≡ tables_bad self.now }
     {
         let mut at: usize = 0;
-        // Each table's end is where the next has to start.
+        // Each table's end is where the next has to start. No `try_fold`: its closure would hand that on in an `Option`,
+        // and say no more.
         for (t, room) in ROOMS.iter().enumerate() {
             let place = self.place(t);
             if room.limit < place.count || place.offset != at {
@@ -149,8 +151,7 @@ impl<'a> Trailer<'a> {
     fn is_bad(&self) -> bool
         ensures { result ≡ trailer_bad self.now }
     {
-        let roles = self.role_count();
-        roles < 1 || 8 < roles || self.reserved_bad() || self.tables_bad()
+        !(1..=8).contains(&self.role_count()) || self.reserved_bad() || self.tables_bad()
     }
 }
 
@@ -159,6 +160,7 @@ impl<'a> Trailer<'a> {
 pub struct Numbers {
     pub roles: u8,
     pub permissions: u8,
+    ghost few: { roles ≤ 8 },
 }
 
 // A lent base that passed 1 to 3, so that its tables can be read; seen as its bytes.
@@ -238,8 +240,7 @@ impl<'a> Frame<'a> {
 
     // Inner: R and the number of permissions.
     pub fn numbers(&self) -> Numbers
-        ensures { (result.roles ≡ role_count self.now) × (result.roles ≤ 8)
-            × (result.permissions ≡ permission_count self.now) }
+        ensures { (result.roles ≡ role_count self.now) × (result.permissions ≡ permission_count self.now) }
     {
         Numbers {
             roles: self.role_count(),
