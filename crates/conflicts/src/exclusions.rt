@@ -10,7 +10,7 @@ pub enum Exclusion {
 }
 
 impl Exclusion {
-    // Inner: reads a record; its kind passed the check, so that it is 1 where it isn't 0.
+    // Inner: reads a record: every kind but 0 as two permissions; behind the check that is kind 1.
     pub fn read(bytes: &[u8]) -> Exclusion
         requires { length bytes.now ≡ 3 }
         ensures { result ≡ exclusion_of bytes.now 0 }

@@ -30,7 +30,7 @@ impl From<Kind> for u8 {
 }
 
 // The conflicts of one kind: a row for each first, with the bits of those that come second beside it. Nothing is
-// allocated: there is room for 64 rows, and those below `firsts` are lent.
+// allocated: there is room for 64 rows, of which those below `firsts` are made.
 #[derive(Drop)]
 pub struct Conflicts {
     pub kind: Kind,
