@@ -1,5 +1,5 @@
 -- Eight places at a time: where the clauses of all together miss the row, each misses it.
-use Prim.Native.Nat.{ℕ, zero, suc, ◌+◌, ◌-◌, ◌^◌, ◌<◌, ◌≤◌}
+use Prim.Native.Nat.{ℕ, zero, suc, ◌+◌, ◌-◌, ◌*◌, ◌/◌, ◌^◌, ◌<◌, ◌≤◌}
 use mathlib.Core.Bool.{Bool, true, false, ◌&&◌, or-true}
 use mathlib.Core.Path.{◌≡◌, refl, sym, ap, ◌∙◌}
 use mathlib.Core.Logic.{inl, inr, ⊎_elim}
@@ -10,6 +10,8 @@ use borrow.Author.Tests.{ne_eqb, eqb-false, leb-true, leb-false}
 use lib.Bits.{bit_and, bit_or}
 use lib.Dec.{eqb, leb, lit<}
 use lib.ListN.{length, get_or, take, drop}
+use Rattle.std.specs.declared.option.Option.{Option}
+use Rattle.std.specs.declared.option.Option.TheVariants.{None}
 use Rattle.std.specs.List.{fold, zip}
 use Rattle.std.proofs.lemmas.List.{length-take, length-drop, get_or-take, get_or-drop}
 use lib.Pow.{pow_mono}
@@ -18,7 +20,7 @@ use Rattle.folds.specs.Below.{any_below}
 use Rattle.folds.proofs.Bools.{met_or_not, clash, and_left, and_right, and_both}
 use Rattle.folds.proofs.Tests.{any_some}
 use Rattle.folds.proofs.Sets.{in_and, in_or, in_none, meet_some}
-use Rattle.seek.specs.Search.{Tables, met_by, met_at, SomeMet, FoundIn}
+use Rattle.seek.specs.Search.{Tables, met_by, met_at, SomeMet, FoundIn, FoundAt}
 
 below_power : (n : ℕ) → n < 2 ^ n
 below_power zero = lit< tt
@@ -138,6 +140,17 @@ module _ {test : ℕ → Bool} {from x : ℕ} (none : (y : ℕ) → from ≤ y �
     met = f.met;
     none = λ e. absurd (omega arith);
   }
+
+-- a stretch behind eights in each of which nothing was found
+module _ {test : ℕ → Bool} {from n : ℕ}
+    (none : (i : ℕ) → i < n → FoundAt test (from + 8 * i) (from + 8 * i + 8) None) where
+  past_eights : (y : ℕ) → from ≤ y → y < from + 8 * n → test y ≡ false
+  past_eights y low high =
+      let i : ℕ = (y - from) / 8 in
+      (none i (omega arith)).found.none refl y (omega arith) (omega arith)
+
+  pub found_behind : {end : ℕ} {o : Option ℕ} → FoundAt test (from + 8 * n) end o → FoundAt test from end o
+  found_behind f = record { found = found_past past_eights (omega arith) f.found; some = f.some }
 
 -- fewer places have room where more have
 pub fewer : {room k : ℕ} {ends sums roles by_sum by_set : List ℕ} → Tables room ends sums roles by_sum by_set →

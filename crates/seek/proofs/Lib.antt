@@ -2,3 +2,4 @@ pub mod ByPlace
 pub mod Eights
 pub mod OneLevel
 pub mod Loops
+pub mod Firsts
