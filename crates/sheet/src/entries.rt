@@ -14,7 +14,8 @@ pub fn stands_in(held: &[u8], user: u32) -> bool
     (0..held.len() / 2).any(|i| u32::from(Entry::of(held, i).user) == user)
 }
 
-// Inner: refusals 1 to 9, 13 to 15 and 20 of a signing.
+// Inner: refusals 1 to 9, 13 to 15 and 20 of a signing. Its user and role may be any u32: the two bytes of an `Entry`
+// would cut them.
 pub fn sign_refusal(base: &[u8], held: &[u8], user: u32, role: u32) -> Result<(), Refusal>
     ensures { number_of result ≡ sign_refusal base.now held.now user role }
 {
