@@ -10,7 +10,7 @@ ghost use Rattle.conflicts.specs.Rows.{Covers, Excluded};
 use crate::exclusions::Exclusion;
 use crate::filling;
 use reader::Policies;
-use weights::sets;
+use weights::{seniority, sets};
 
 // The set of the roles that have j among their juniors.
 fn seniors_of(juniors: &[u8; 8], j: u8) -> u8
@@ -18,7 +18,7 @@ fn seniors_of(juniors: &[u8; 8], j: u8) -> u8
     ensures { (s : ℕ) → s < 8 → in_set result s ≡ in_set (get_or juniors.now s 0) j }
 {
     (0..8u8)
-        .filter(|s| sets::in_set(juniors[*s as usize] as u32, j))
+        .filter(|s| seniority::is_senior(*juniors, *s, j))
         .fold(0, |set, s| set | sets::role_bit(s))
 }
 

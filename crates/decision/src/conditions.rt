@@ -23,7 +23,7 @@ pub struct Attributes {
 }
 
 impl Attributes {
-    // By the attribute's byte, any of 256: an enum would put four arms in front of these.
+    // By the attribute's byte: an enum would be made of it by a match with as many arms, and then be matched by these.
     fn attribute(self, a: u8) -> u32
         ensures { result ≡ attribute self.entries self.sum self.roles a }
     {

@@ -118,12 +118,10 @@ impl Sheet {
         ensures { result ≡ holding self.now.permission (entries_without user (held_on self.now)) }
     {
         let mut left = Sheet::unsigned(self.permission);
-        for entry in self.held().chunks_exact(2) {
-            if u32::from(entry[0]) != user {
-                left.add(Entry {
-                    user: entry[0],
-                    role: entry[1],
-                });
+        for bytes in self.held().chunks_exact(2) {
+            let entry = Entry::of(bytes, 0);
+            if u32::from(entry.user) != user {
+                left.add(entry);
             }
         }
         left

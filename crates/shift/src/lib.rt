@@ -12,6 +12,7 @@ use decision::groups::Entry;
 use decision::members::Members;
 use reader::{Policies, Refusal, Refused};
 use weights::acting::Acting;
+use weights::seniority;
 
 // Entry point: by how much, at most, the group's sum of weights shifts where the policy gets this weight; refusals 1 to
 // 9, 12 to 15, then 21. A refusal carries 0.
@@ -73,5 +74,5 @@ fn is_at_or_above(juniors: [u8; 8], role: u8, r: u8) -> bool
     requires { (role < 8) × (r < 8) }
     ensures { result ≡ at_or_above juniors role r }
 {
-    (r == role) | weights::sets::in_set(juniors[r as usize] as u32, role)
+    (r == role) | seniority::is_senior(juniors, r, role)
 }

@@ -48,7 +48,7 @@ impl<'a> Acting<'a> {
         self.juniors
     }
 
-    // Inner: R.
+    // Inner: R. This and the number of users are the base's, given here too: `Members::of` is lent this value alone.
     pub fn role_count(&self) -> u8
         ensures { (result ≡ role_count self.now) × (result ≤ 8) }
     {

@@ -8,6 +8,7 @@ ghost use Rattle.weights.specs.Setting.{Juniors, Light, ChosenBy, AreWeights};
 use crate::{inherited, policies};
 
 // Weights of policies of any type (own) and of type 1 (inh), at 8 times the permission and the role; none is above 5.
+// Flat, for of arrays of arrays the facts would be of lists of lists; and two, for each is made and read by itself.
 #[derive(Clone, Copy)]
 pub struct Chosen {
     pub own: [u8; 128],

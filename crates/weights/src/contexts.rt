@@ -19,7 +19,7 @@ pub fn out_of_range(at: Context) -> bool
         | (u32::from(RANGES[2]) <= at.zone)
 }
 
-// By the parameter's byte, any of 256 where it is read: an enum would put three arms in front of these.
+// By the parameter's byte: an enum would be made of it by a match with as many arms, and then be matched by these.
 #[tactic(auto, unfolding(crate::specs::Contexts::value_of))]
 fn value_of(at: Context, parameter: u8) -> u32
     ensures { result ≡ value_of at parameter }

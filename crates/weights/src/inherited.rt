@@ -2,14 +2,18 @@
 ghost use Rattle.std.specs.Prelude.{◌≡◌, ℕ, ◌+◌, ◌*◌, ◌≤◌, ◌<◌, length, get_or};
 ghost use Rattle.weights.specs.Setting.{given, HandedOn};
 
-use crate::{policies, sets};
+use crate::{policies, seniority};
 
-// What junior j, which hands on x, gives to a role with this set of juniors.
-fn share(set: u8, j: u8, x: u8) -> u8
-    requires { j < 8 }
-    ensures { (result ≡ given set j x) × (result ≤ x) }
+// What junior j, which hands on x, gives to role r.
+fn share(juniors: [u8; 8], r: u8, j: u8, x: u8) -> u8
+    requires { (r < 8) × (j < 8) }
+    ensures { (result ≡ given (get_or juniors r 0) j x) × (result ≤ x) }
 {
-    if sets::in_set(set as u32, j) { x } else { 0 }
+    if seniority::is_senior(juniors, r, j) {
+        x
+    } else {
+        0
+    }
 }
 
 // Inner: junior j hands on x to each role that is its senior.
@@ -21,7 +25,7 @@ pub fn hand_on(w: &mut [u8; 8], juniors: [u8; 8], j: u8, x: u8)
         return;
     }
     for (r, weight) in w.iter_mut().enumerate() {
-        *weight += share(juniors[r], j, x);
+        *weight += share(juniors, r as u8, j, x);
     }
 }
 

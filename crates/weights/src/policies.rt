@@ -63,7 +63,8 @@ pub fn choose(a: &Policies<'_>, contexts: u32, list: &[u8]) -> Chosen
         weight: [0; 128],
     };
     let mut one = any;
-    // No fold: its closure would hand on 512 bytes a turn, and say no more than this.
+    // By number, since a policy's fields are read by its number. No fold: its closure would hand on 512 bytes a turn,
+    // and say no more than this.
     for i in 0..a.count() {
         if in_force(contexts, a.context(i)) {
             let place = place_of(a.permission(i), a.role(i));

@@ -16,6 +16,14 @@ pub fn with_juniors(j: u8, known: [u8; 8]) -> u8
     sets::role_bit(j) | known[j as usize]
 }
 
+// Inner: role r is a senior of role j, by each role's set of juniors.
+pub fn is_senior(juniors: [u8; 8], r: u8, j: u8) -> bool
+    requires { (r < 8) × (j < 8) }
+    ensures { result ≡ in_set (get_or juniors r 0) j }
+{
+    sets::in_set(juniors[r as usize] as u32, j)
+}
+
 // The juniors of role s, from the known juniors of the roles with higher numbers.
 fn juniors_of(h: &[u8], s: u8, known: [u8; 8]) -> u8
     requires { hierarchy_bad 8 h.now ≡ false }

@@ -1,4 +1,5 @@
 // Sets of small numbers as one number: bit r for r. One function a width: a trait would say the same shift three times.
+// A set of roles, a byte, is widened by whoever asks `in_set` of it.
 ghost use Rattle.std.specs.Prelude.{◌≡◌, ◌^◌, ◌<◌};
 ghost use Rattle.folds.specs.Sets.{in_set};
 

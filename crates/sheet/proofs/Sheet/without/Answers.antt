@@ -1,7 +1,7 @@
 -- `without` meets its contract: it keeps the entries of all others, one behind the other.
-use Rattle.std.proofs.Common.{ℕ, ◌≤◌, List, ◌++◌, ◌≡◌, ◌∙◌, length, get_or}
+use Rattle.std.proofs.Common.{ℕ, ◌≤◌, List, ◌++◌, ◌≡◌, ◌∙◌, length}
 use borrow.Author.Tests.{eq-eqb, ne_eqb}
-use Rattle.decision.specs.Groups.{entry_count}
+use Rattle.decision.specs.Groups.{entry_count, entry_user, entry_role}
 use Rattle.sheet.specs.declared.Sheet.{Sheet}
 use Rattle.sheet.specs.Sheets.{unsigned, held_on, is_another, with_entry}
 use Rattle.sheet.proofs.Holding.{held_few, held_entries}
@@ -19,40 +19,42 @@ begun s user e f few = rw (e, f) (none_stayed (is_another user) (held_on s) s.pe
 -- one turn: the entry is another user's, or the user's own
 module _ {user : ℕ} {held : List ℕ} {p : ℕ} {left : Sheet} {rest : List ℕ} (entry after : List ℕ)
     (yet : StayedYet (is_another user) held p left rest) (are : rest ≡ entry ++ after) (size : length entry ≡ 2)
-    {n : ℕ} (first : n ≡ get_or entry 0 0) where
-  stays : {next : Sheet} → (n ≡ user → ⊥) → next ≡ with_entry left (get_or entry 0 0) (get_or entry 1 0) →
+    {u r : ℕ} (read : (u ≡ entry_user entry 0) × (r ≡ entry_role entry 0)) {n : ℕ} (first : n ≡ u) where
+  stays : {next : Sheet} → (n ≡ user → ⊥) → next ≡ with_entry left u r →
       StayedYet (is_another user) held p next after
-  stays h e = rw e (one_stays _ _ p entry after yet are size (rw (← first, ne_eqb n user h)))
+  stays h e =
+      rw (e, read.0, read.1)
+      (one_stays _ _ p entry after yet are size (rw (← read.0, ← first, ne_eqb n user h)))
 
   goes : n ≡ user → StayedYet (is_another user) held p left after
-  goes h = one_goes _ _ p entry after yet are size (rw (← first, eq-eqb n user h))
+  goes h = one_goes _ _ p entry after yet are size (rw (← read.0, ← first, eq-eqb n user h))
 
-pub loop-entry-init : goal.loop-entry-init
-loop-entry-init c =
+pub loop-bytes-init : goal.loop-bytes-init
+loop-bytes-init c =
     let (are, size) = c.held.ensures in
-    let items = c.chunks_exact-entry-items.ensures in
-    let given = c.into_iter-entry-iterator.ensures.into_iter_gives in
+    let items = c.chunks_exact-bytes-items.ensures in
+    let given = c.into_iter-bytes-iterator.ensures.into_iter_gives in
     (begun c.args.self.now c.args.user c.unsigned-left.ensures (cc) (few_held c.args.self.now size), cc)
 
 pub add-requires : goal.add-requires
 add-requires c =
     let (_, (are, size), _) = c.in-Some.ensures.steps in
-    room_left _ _ _ _ _ c.loop-entry.invariant.0 are (size ∙ c.loop-entry.invariant.1)
+    room_left _ _ _ _ _ c.loop-bytes.invariant.0 are (size ∙ c.loop-bytes.invariant.1)
 
-pub loop-entry-preserved-then-from-user : goal.loop-entry-preserved-then-from-user
-loop-entry-preserved-then-from-user c =
+pub loop-bytes-preserved-then-from-user : goal.loop-bytes-preserved-then-from-user
+loop-bytes-preserved-then-from-user c =
     let (same, (are, size), _) = c.in-Some.ensures.steps in
-    let (yet, two) = c.loop-entry.invariant in
-    (stays _ _ yet are (size ∙ two) c.from.ensures c.if-from-user.true c.add.ensures, same ∙ two)
+    let (yet, two) = c.loop-bytes.invariant in
+    (stays _ _ yet are (size ∙ two) c.of-entry.ensures c.from.ensures c.if-from-user.true c.add.ensures, same ∙ two)
 
-pub loop-entry-preserved : goal.loop-entry-preserved
-loop-entry-preserved c =
+pub loop-bytes-preserved : goal.loop-bytes-preserved
+loop-bytes-preserved c =
     let (same, (are, size), _) = c.in-Some.ensures.steps in
-    let (yet, two) = c.loop-entry.invariant in
-    (goes _ _ yet are (size ∙ two) c.from.ensures c.if-from-user.false, same ∙ two)
+    let (yet, two) = c.loop-bytes.invariant in
+    (goes _ _ yet are (size ∙ two) c.of-entry.ensures c.from.ensures c.if-from-user.false, same ∙ two)
 
 pub returns : goal.returns
 returns c =
     let (_, (short, _), _) = c.in-None.ensures.steps in
-    let (yet, two) = c.loop-entry.invariant in
+    let (yet, two) = c.loop-bytes.invariant in
     all_stayed _ _ _ yet (rw two at short)
