@@ -26,6 +26,15 @@ impl<'a> Model for ContextClauses<'a> {
         × (length c.table.now ≡ 16 * record_count contexts c.table.now) };
 }
 
+// Clauses i and j where they speak of parameter p.
+#[derive(Clone, Copy)]
+struct Meeting {
+    i: usize,
+    j: usize,
+    p: u8,
+    ghost parameter: { p < 3 },
+}
+
 impl<'a> ContextClauses<'a> {
     // Inner: the clauses of such a table.
     pub fn of(table: &'a [u8]) -> ContextClauses<'a>
@@ -68,46 +77,50 @@ impl<'a> ContextClauses<'a> {
             })
     }
 
-    fn both_fit(&self, i: usize, j: usize, p: u8, v: u32) -> bool
-        requires { p < 3 }
-        ensures { result ≡ both_fit self.now i j p v }
+    // Value v meets the conditions of both clauses.
+    fn both_fit(&self, meeting: Meeting, v: u32) -> bool
+        ensures { result ≡ both_fit self.now meeting.i meeting.j meeting.p v }
     {
+        let Meeting { i, j, p, .. } = meeting;
         v < RANGES[p as usize] as u32 && self.fits_all(i, p, v) && self.fits_all(j, p, v)
     }
 
-    // Condition k of clause s is on parameter p, and its value, or one more, meets the conditions of clauses i and j.
-    fn value_fits(&self, s: usize, i: usize, j: usize, p: u8, k: usize) -> bool
-        requires { (p < 3) × (k < context_length self.now s) }
-        ensures { result ≡ value_fits self.now s i j p k }
+    // Condition k of clause s is on the parameter, and its value, or one more, meets the conditions of both clauses.
+    fn value_fits(&self, meeting: Meeting, s: usize, k: usize) -> bool
+        requires { k < context_length self.now s }
+        ensures { result ≡ value_fits self.now s meeting.i meeting.j meeting.p k }
     {
         let condition = ContextCondition::read(self.table, s, k);
         let value = u32::from(condition.value);
-        condition.parameter == p
-            && (self.both_fit(i, j, p, value) || self.both_fit(i, j, p, value + 1))
+        condition.parameter == meeting.p
+            && (self.both_fit(meeting, value) || self.both_fit(meeting, value + 1))
     }
 
     // Some condition's value of clause s, or one more, does.
-    fn some_value_fits(&self, s: usize, i: usize, j: usize, p: u8) -> bool
-        requires { p < 3 }
-        ensures { result ≡ some_value_fits self.now s i j p }
+    fn some_value_fits(&self, meeting: Meeting, s: usize) -> bool
+        ensures { result ≡ some_value_fits self.now s meeting.i meeting.j meeting.p }
     {
-        (0..self.length_of(s)).any(|k| self.value_fits(s, i, j, p, k))
+        (0..self.length_of(s)).any(|k| self.value_fits(meeting, s, k))
     }
 
-    fn can_meet(&self, i: usize, j: usize, p: u8) -> bool
-        requires { p < 3 }
-        ensures { result ≡ meetable self.now i j p }
+    // Some value does: 0, or a condition's value, or one more.
+    fn can_meet(&self, meeting: Meeting) -> bool
+        ensures { result ≡ meetable self.now meeting.i meeting.j meeting.p }
     {
-        self.both_fit(i, j, p, 0)
-            || self.some_value_fits(i, i, j, p)
-            || self.some_value_fits(j, i, j, p)
+        self.both_fit(meeting, 0)
+            || self.some_value_fits(meeting, meeting.i)
+            || self.some_value_fits(meeting, meeting.j)
     }
 
     // Clauses i and j can hold together.
     fn are_compatible(&self, i: usize, j: usize) -> bool
         ensures { result ≡ compatible self.now i j }
     {
-        (0..3u8).all(|p| self.can_meet(i, j, p))
+        (0..3u8).all(
+            |p|
+                requires { p < 3 }
+            { self.can_meet(Meeting { i, j, p }) },
+        )
     }
 
     // Clause j of the context number can hold together with clause i.

@@ -51,7 +51,8 @@ fn put_listing(page: &mut Page<'_>, input: &[u8])
 }
 
 // Inner: all that the program prints, in the first bytes of `out`; how many. `input` is its buffer, of which `read`
-// bytes were read: 4 of context, 2,364 of base, and one more, by which a longer base is seen.
+// bytes were read: 4 of context, 2,364 of base, and one more, by which a longer base is seen. The number stands
+// beside the buffer, since the promise needs the buffer's own length: only fewer bytes than that are the whole input.
 pub fn listing(input: &[u8], read: usize, out: &mut [u8]) -> usize
     requires { (length input.now ≡ 2369) × (read ≤ 2369) × (768 ≤ length out.old) }
     ensures { WholeListed input.now read out.old out.new result }

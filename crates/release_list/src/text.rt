@@ -68,7 +68,8 @@ impl Page<'_> {
         }
     }
 
-    // The line of permission p with k approvers; the group stands by rising user.
+    // The line of permission p with k approvers; the group stands by rising user. k is the part's own byte: by the
+    // group's length it would be a cast, and this would have to ask that the length is small.
     fn put_line(&mut self, p: u8, k: u8, group: &[u8])
         requires { Rising group.now × HasRoom self.old (line_text p k group.now) }
         ensures { Put (line_text p k group.now) self.old self.new }
@@ -79,7 +80,8 @@ impl Page<'_> {
         self.put(b"\n");
     }
 
-    // Inner: the lines of n parts of 13 bytes.
+    // Inner: the lines of n parts of 13 bytes. n stands beside the parts: by a length cut to them p would be a cast,
+    // the length would have to be asked small, and each part of the cut shown to be that of the report.
     pub fn put_lines(&mut self, parts: &[u8], n: u8)
         requires { Parts parts.now n × HasRoom self.old (lines_text parts.now n) }
         ensures { Put (lines_text parts.now n) self.old self.new }

@@ -9,5 +9,5 @@ unfolding some_value_fits
 returns c =
     let a = c.args in
     rw (← c.length_of.ensures)
-    (any_of_range (value_fits a.self.now a.s a.i a.j a.p) c.length_of.result _ _ _ (cc)
+    (any_of_range (value_fits a.self.now a.s a.meeting.i a.meeting.j a.meeting.p) c.length_of.result _ _ _ (cc)
     (λ x b q k. search (rules, tests)) c.any.ensures.ran)

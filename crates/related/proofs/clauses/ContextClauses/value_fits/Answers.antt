@@ -5,4 +5,4 @@ use Rattle.related.proofs.clauses.ContextClauses.value_fits.Goals as goal
 pub read-condition-requires : goal.read-condition-requires
 read-condition-requires c =
     let (fine, whole) = c.self.invariant in
-    condition_inside _ fine whole c.args.s c.args.k (rw c.self.view_is c.requires.1)
+    condition_inside _ fine whole c.args.s c.args.k (rw c.self.view_is c.requires)
