@@ -1,3 +1,2 @@
 pub mod Asked
-pub mod Extremes
 pub mod Seek

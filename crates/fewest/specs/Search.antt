@@ -26,15 +26,9 @@ pub record WeighedBelow (w : List ℕ) (n : ℕ) (s : Weighed) : Type 0 where
   pub ordered : s.light ≤ s.heavy
   pub most : s.heavy ≤ 40
 
--- the last role that has weight
-pub record IsLastRole (w : List ℕ) (last : ℕ) : Type 0 where
-  pub within : last ≤ 7
-  pub past : (r : ℕ) → last < r → r < 8 → get_or w r 0 ≡ 0
-  pub some : 0 < get_or w last 0
-
--- or that there is none
-abbrev pub LastRole : List ℕ → Option ℕ → Type 0
-LastRole w last = MatchOption last ((r : ℕ) → r < 8 → get_or w r 0 ≡ 0) (IsLastRole w)
+-- the same where some role below n has weight, or that none has
+abbrev pub WeighedSome : List ℕ → ℕ → Option Weighed → Type 0
+WeighedSome w n s = MatchOption s ((r : ℕ) → r < n → get_or w r 0 ≡ 0) (λ s. WeighedBelow w n s × (0 < s.end))
 
 -- the last row that isn't empty
 pub record IsLast (rows : List ℕ) (last : ℕ) : Type 0 where

@@ -40,7 +40,7 @@ pub fn fewest<const ROWS: usize, const PLACES: usize>(
         × ((sets : List ℕ) → NextEnds sets tables.old.users.nexts →
         AnsweredWith sets w start.sum (holds_with k.now permission start) (6 - start.count) result) }
 {
-    let weighed = weighing::weighed(&w);
+    let weighed = weighing::weighed(w);
     let own = masks::clauses::own_clauses(k, permission);
     if own == 0 || weighed.heavy + start.count == 0 {
         return None;

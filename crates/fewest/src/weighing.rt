@@ -1,31 +1,41 @@
 // What the weights of a permission's roles tell at once.
-ghost use Rattle.std.specs.Prelude.{ℕ, ◌≤◌, ◌<◌, get_or};
-ghost use Rattle.fewest.specs.Search.{LastRole, WeighedBelow};
+ghost use Rattle.std.specs.Prelude.{◌≡◌, ℕ, ◌+◌, ◌≤◌, ◌<◌, List, get_or};
+ghost use Rattle.fewest.specs.Search.{WeighedBelow, WeighedSome};
 
 use masks::Weighed;
 use reader::bytes;
 
-// The last role that has weight.
-fn last_role(w: &[u8; 8]) -> Option<usize>
-    ensures { LastRole w.now result }
+// What the roles before role r weigh, and role r, of weight x; None where none of them has weight.
+fn with_role(before: Option<Weighed>, x: usize, r: u8) -> Option<Weighed>
+    requires { (r < 8) × (x ≤ 40) }
+    ensures { (w : List ℕ) → x ≡ get_or w r 0 → WeighedSome w r before → WeighedSome w (r + 1) result }
 {
-    w.iter().rposition(|x| *x > 0)
+    if x == 0 {
+        return before;
+    }
+    let s = before.unwrap_or(Weighed {
+        light: x,
+        heavy: x,
+        end: r,
+    });
+    Some(Weighed {
+        light: s.light.min(x),
+        heavy: s.heavy.max(x),
+        end: r + 1,
+    })
 }
 
 // Inner: what all roles weigh.
-pub fn weighed(w: &[u8; 8]) -> Weighed
-    requires { (r : ℕ) → r < 8 → get_or w.now r 0 ≤ 40 }
-    ensures { WeighedBelow w.now 8 result }
+pub fn weighed(w: [u8; 8]) -> Weighed
+    requires { (r : ℕ) → r < 8 → get_or w r 0 ≤ 40 }
+    ensures { WeighedBelow w 8 result }
 {
-    let light = w.iter().copied().filter(|x| *x > 0).min();
-    let heavy = w.iter().copied().max();
-    let end = match last_role(w) {
-        None => 0,
-        Some(r) => r as u8 + 1,
+    let none = Weighed {
+        light: 0,
+        heavy: 0,
+        end: 0,
     };
-    Weighed {
-        light: bytes::wide(light.unwrap_or(0)),
-        heavy: bytes::wide(heavy.unwrap_or(0)),
-        end,
-    }
+    (0..8u8)
+        .fold(None, |s, r| with_role(s, bytes::wide(w[bytes::wide(r)]), r))
+        .unwrap_or(none)
 }

@@ -1,38 +1,29 @@
--- The least and the largest weight by the library's `min` and `max`.
-use Rattle.std.proofs.Common.{rules, tests, sym, ap, ◌∙◌, ◌≡◌, length}
+-- Role by role, what the roles before it weigh.
+use Rattle.std.proofs.Common.{rules, List, ℕ, Option, Some, None, arith}
 use Rattle.std.specs.Prelude.{unwrap_or}
-use Rattle.std.proofs.lemmas.Iterator.{YieldsList-from_slice}
-use Rattle.std.proofs.lemmas.Iterator.Adapters.{option_map_id}
-use Rattle.std.proofs.lemmas.Iterator.Consumers.{YieldsList-from_copied, YieldsList-from_filter}
-use Rattle.std.proofs.lemmas.Iterator.Consumers.{max_from_yields_List, min_from_yields_List}
-use Rattle.fewest.proofs.Extremes.{lightest, heaviest, weighed_none, weighed_some}
+use Rattle.masks.specs.declared.Weighed.{Weighed}
+use Rattle.fewest.specs.Search.{WeighedBelow, WeighedSome}
+use Rattle.folds.proofs.Folds.{fold_of_range}
 use Rattle.fewest.proofs.weighing.weighed.Goals as goal
-use Rattle.fewest.proofs.weighing.weighed.Goals.{in-None, in-Some}
 
-light_is : (c : goal.After-wide-2) → c.wide.result ≡ lightest c.args.w.now
-light_is c =
-    c.wide.ensures.0 ∙ c.unwrap_or.ensures
-    ∙ ap (λ o. unwrap_or o 0) (sym (option_map_id _)
-    ∙ min_from_yields_List _ _ c.min-light.ensures.ran
-    (YieldsList-from_filter _ _ (YieldsList-from_copied (YieldsList-from_slice c.args.w.now cc))
-    c.filter.ensures.closure (λ x b q k. search (rules, tests))))
-
-heavy_is : (c : goal.After-wide-2) → c.wide-2.result ≡ heaviest c.args.w.now
-heavy_is c =
-    c.wide-2.ensures.0 ∙ c.unwrap_or-2.ensures
-    ∙ ap (λ o. unwrap_or o 0) (sym (option_map_id _)
-    ∙ max_from_yields_List _ _ c.max-heavy.ensures.ran
-    (YieldsList-from_copied (YieldsList-from_slice c.args.w.now cc)))
-
-size_is : (c : goal.After-wide-2) → length c.args.w.now ≡ 8
-size_is c = search rules
+-- where no role has weight all is 0
+all_weighed : {w : List ℕ} (o : Option Weighed) → WeighedSome w 8 o →
+    WeighedBelow w 8 (unwrap_or o (record { light = 0; heavy = 0; end = 0 }))
+all_weighed None h = record {
+  light = λ r l some. omega arith;
+  heavy = λ r l. omega (arith, h r l);
+  before = λ r l some. omega (arith, h r l);
+  within = omega arith;
+  last = λ some. absurd (omega arith);
+  some = λ some. absurd (omega arith);
+  ordered = omega arith;
+  most = omega arith;
+}
+all_weighed (Some s) h = h.0
 
 pub returns : goal.returns
 returns c =
-    let w = c.args.w.now in
-    elim c.match-last_role.branch [
-      | in-None none ↦
-          rw none.end-is (weighed_none w (size_is c) (light_is c) (heavy_is c) c.requires none.in-None.ensures)
-      | in-Some some ↦
-          rw some.end-is (weighed_some w (size_is c) (light_is c) (heavy_is c) c.requires some.in-Some.ensures)
-    ]
+    let w = c.args.w in
+    let all =
+    fold_of_range 8 (cc) (WeighedSome w) (λ x a b q l j k. search rules) (search rules) c.fold.ensures.ran in
+    rw c.unwrap_or.ensures (all_weighed c.fold.result all)
