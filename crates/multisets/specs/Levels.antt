@@ -34,7 +34,7 @@ pub record Grown (d : ℕ) (nexts : List ℕ) (k : ℕ) (t ends from : List ℕ)
   pub rows : Rows d k t
   pub filled : Filled d nexts (8 * k) ends from
 
--- this of what is reached, for these users
+-- of the multisets reached, those before place k have their rows and have led on, by these users' next ends
 abbrev pub GrownTo : {rows places : ℕ} → Users → ℕ → Reached rows places → Type 0
 GrownTo users k reached = Grown users.d users.nexts k reached.rows reached.ends reached.from
 
@@ -60,6 +60,10 @@ pub record Levels (d n : ℕ) (nexts t ends from roles : List ℕ) : Type 0 wher
 -- the table holds the sums that a search weighs by, of the multisets of roles below its end that stand before place k
 abbrev pub Summed : ℕ → Weighing → List ℕ → ℕ → Type 0
 Summed d weighing t k = Held d weighing.end (sum_at weighing.w weighing.placed) t k
+
+-- placed before and n entries more, of at most 40 each, their sums fit a byte
+abbrev pub SumsFit : Weighing → ℕ → Type 0
+SumsFit weighing n = weighing.placed + n * 40 ≤ 255
 
 -- tables with room for all levels, with no end yet
 pub record Blank (d : ℕ) (t ends from roles : List ℕ) : Type 0 where

@@ -54,7 +54,9 @@ fn end_from(sets: &[u8; 24], later: u8, from: usize, role: u8) -> u8
     }
 }
 
-// Inner: these ends, by each user's set of roles; users from `users` on may act in no role.
+// Inner: these ends, by each user's set of roles; users from `users` on may act in no role. All sets and a number, no
+// slice of those there are: `NextEnds` and the report speak of 24 sets, and of a slice's ends it would have to be shown
+// that they are those of the 24.
 pub fn next_ends(sets: &[u8; 24], users: usize) -> Nexts
     requires { (users ≤ 24) × ((u : ℕ) → users ≤ u → get_or sets.now u 0 ≡ 0) }
     ensures { NextEnds sets.now result }

@@ -59,8 +59,9 @@ fn relax(ends: &mut [u8], from: &mut [u16], at: usize, end: u8, k: u16)
     }
 }
 
-// Inner: the multisets made so far, at their places: their rows, their least ends, and by which entry each end came.
-// Their own struct: within a level what the tables hold as one value isn't so.
+// Inner: the multisets made so far, at their places: their rows, their least ends, and by which entry each end came. An
+// entry is one number, 8 * i + q for place i and role q, as it lies in rows of eight numbers a multiset. Their own
+// struct: while a level is made, the invariant of `LevelTables` doesn't hold.
 #[derive(Drop)]
 pub struct Reached<const ROWS: usize, const PLACES: usize> {
     pub rows: [u16; ROWS],

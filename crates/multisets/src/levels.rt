@@ -1,7 +1,7 @@
 // The tables of a search, level by level.
 ghost use Rattle.std.specs.Prelude.{◌≡◌, ℕ, suc, ◌+◌, ◌*◌, ◌≤◌};
 ghost use Rattle.multisets.specs.Ranks.{first};
-ghost use Rattle.multisets.specs.Levels.{Summed};
+ghost use Rattle.multisets.specs.Levels.{Summed, SumsFit};
 ghost use Rattle.multisets.specs.Laid.{Laid, Laid-prop};
 
 use crate::ends::{Nexts, Users};
@@ -10,7 +10,9 @@ use crate::{Weighing, values};
 
 // Inner: what is known of the multisets of at most six roles below d, for users by their next ends, up to the level of
 // `known` roles; the sums are those of the search under way. With room for ROWS numbers of rows, and for PLACES
-// multisets. The arrays stand side by side: the search reads eight places of one at a time, and nothing is allocated.
+// multisets. Arrays side by side, none of structs: the search reads eight places of one at a time, and `write_block`
+// makes sums and sets each in an array of its own (in one of structs it would be told which field). Nothing is
+// allocated.
 #[derive(Drop)]
 pub struct LevelTables<const ROWS: usize, const PLACES: usize> {
     pub users: Users,
@@ -71,7 +73,7 @@ impl<const ROWS: usize, const PLACES: usize> LevelTables<ROWS, PLACES> {
     // Inner: the sums of the multisets of n roles below the end, with what is placed before, where those of fewer are
     // made.
     pub fn sum_level(&mut self, n: usize, weighing: Weighing)
-        requires { (n ≤ 6) × (weighing.end ≤ self.old.users.d) × (weighing.placed + n * 40 ≤ 255)
+        requires { (n ≤ 6) × (weighing.end ≤ self.old.users.d) × SumsFit weighing n
             × Summed self.old.users.d weighing self.old.sums (first self.old.users.d n) }
         ensures { Summed self.old.users.d weighing self.new.sums (first self.old.users.d (suc n))
             × (self.new.users ≡ self.old.users) }

@@ -2,7 +2,7 @@
 ghost use Rattle.std.specs.Prelude.{◌≡◌, ◌≤◌};
 ghost use Rattle.multisets.specs.Ranks.{starts, first, Starts};
 
-// How many multisets of n roles below d there are, at 10 times n and d.
+// How many multisets of n roles below d there are; flat, at 10 times n and d, as the definition `Starts` reads it.
 static STARTS: [usize; 70] = [
     1, 1, 1, 1, 1, 1, 1, 1, 1, 1, //
     0, 1, 2, 3, 4, 5, 6, 7, 8, 9, //

@@ -2,7 +2,7 @@
 ghost use Rattle.std.specs.Prelude.{◌≡◌, ℕ, suc, ◌+◌, ◌*◌, ◌^◌, ◌≤◌, ◌<◌, length, get_or};
 ghost use Rattle.multisets.specs.Ranks.{first};
 ghost use Rattle.multisets.specs.Values.{Held, set_at, Steps, Written};
-ghost use Rattle.multisets.specs.Levels.{Summed};
+ghost use Rattle.multisets.specs.Levels.{Summed, SumsFit};
 
 use crate::Weighing;
 use crate::ranks::{first_in, start_in};
@@ -48,7 +48,7 @@ fn next_level<F: Fn(u8, usize) -> u8>(d: usize, end: usize, n: usize, t: &mut [u
 // Inner: the sums of the multisets of n roles below the end, with what is placed before, where those of fewer are made.
 // The sum of no role is what is placed before.
 pub fn sum_level(d: usize, n: usize, weighing: Weighing, t: &mut [u8])
-    requires { (n ≤ 6) × (d ≤ 8) × (weighing.end ≤ d) × (weighing.placed + n * 40 ≤ 255)
+    requires { (n ≤ 6) × (d ≤ 8) × (weighing.end ≤ d) × SumsFit weighing n
         × Summed d weighing t.old (first d n) }
     ensures { Summed d weighing t.new (first d (suc n)) }
 {

@@ -4,7 +4,7 @@
 ghost use Rattle.std.specs.Prelude.{◌≡◌, List, ℕ, suc, ◌+◌, ◌*◌, ◌≤◌};
 ghost use Rattle.multisets.specs.Ranks.{first};
 ghost use Rattle.multisets.specs.Ends.{NextEnds};
-ghost use Rattle.multisets.specs.Levels.{Summed};
+ghost use Rattle.multisets.specs.Levels.{Summed, SumsFit};
 ghost use Rattle.seek.specs.Search.{met_by, by_masks, SomeMet, FoundAt, Ready, TriedWith};
 ghost use Rattle.seek.specs.Level.{Roomy, meets};
 ghost use Rattle.seek.specs.Answer.{AnsweredWith};
@@ -100,7 +100,7 @@ fn try_level<const ROWS: usize, const PLACES: usize>(
     n: usize,
     weighing: Weighing,
 ) -> Option<usize>
-    requires { (n ≤ 6) × (weighing.placed + n * 40 ≤ 255)
+    requires { (n ≤ 6) × SumsFit weighing n
         × Ready tables.old.users.d weighing.end weighing.w tables.old.users.nexts masks.now.sums masks.now.sets
         × Summed tables.old.users.d weighing tables.old.sums (first tables.old.users.d n) }
     ensures { (tables.new.users ≡ tables.old.users)
@@ -143,7 +143,7 @@ pub fn search<const ROWS: usize, const PLACES: usize>(
     last: usize,
     weighing: Weighing,
 ) -> Option<Found>
-    requires { (last ≤ 6) × (weighing.placed + last * 40 ≤ 255)
+    requires { (last ≤ 6) × SumsFit weighing last
         × Ready tables.old.users.d weighing.end weighing.w tables.old.users.nexts masks.now.sums masks.now.sets }
     ensures { (tables.new.users ≡ tables.old.users)
         × ((sets : List ℕ) → NextEnds sets tables.old.users.nexts →
