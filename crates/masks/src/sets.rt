@@ -15,7 +15,8 @@ pub fn role_counts(counts: &mut [u8; 256], end: usize)
     requires { end ≤ 256 }
     ensures { RoleCounts end counts.new }
 {
-    // no `array::from_fn`: it counts all 256, and takes the small shop's report past 1.15 times the twin's instructions
+    // No `array::from_fn`: it would count all 256, and by reckoning take the small shop's report past 1.15 times the
+    // twin's instructions.
     for (v, count) in counts[..end].iter_mut().enumerate() {
         *count = conditions::role_num(v as u8) as u8;
     }
