@@ -9,6 +9,8 @@ pub fn wide(x: u8) -> usize
     usize::from(x)
 }
 
+// Two widths, two functions: `from_le_bytes` is each type's own, and no trait of std has it.
+
 // Inner: the number in 2 bytes.
 pub fn get16(b: &[u8], i: usize) -> u16
     requires { i + 2 ≤ length b.now }

@@ -1,4 +1,5 @@
 // The records of K: refusal 6.
+ghost use Rattle.std.proofs.Common.{rules};
 ghost use Rattle.std.specs.Prelude.{◌≡◌, ◌+◌, ◌*◌, ◌≤◌, ◌<◌, length};
 ghost use Rattle.reader.specs.Fields.{condition_attribute, condition_operator, condition_value};
 ghost use Rattle.reader.specs.Rules.{condition_bad, some_nonzero, clause_bad, clauses_bad};
@@ -7,19 +8,12 @@ use crate::conditions::{Condition, rest_bad};
 use crate::trailer::Numbers;
 
 // Inner: a condition on a group.
-#[derive(Clone, Copy, PartialEq, Eq)]
+#[derive(Clone, Copy, Default, PartialEq, Eq)]
 pub struct GroupCondition {
     pub attribute: u8,
     pub operator: u8,
     pub value: u8,
 }
-
-// What a slot that isn't used reads as.
-const BLANK: GroupCondition = GroupCondition {
-    attribute: 0,
-    operator: 0,
-    value: 0,
-};
 
 impl Condition for GroupCondition {
     const SLOTS: usize = 4;
@@ -54,9 +48,7 @@ impl Condition for GroupCondition {
         }
     }
 
-    fn is_nonzero(self) -> bool {
-        self != BLANK
-    }
+    ghost blank = { Prim.search rules };
 }
 
 fn clause_bad(k: &[u8], i: usize, numbers: Numbers) -> bool

@@ -1,4 +1,5 @@
-// Membership: a user's parameter against the roles' identity codes (refusal 5).
+// Membership: a user's parameter against the roles' identity codes (refusal 5). `roles ≤ 8` is a clause: a type of it
+// would be named more often than it is said.
 ghost use Rattle.std.specs.Prelude.{true, ◌≡◌, ◌/◌, ◌≤◌, ◌<◌};
 ghost use Rattle.reader.specs.Codes.{codes, code_of, parameter_ok, code_divides, held_by, roles_read, parameter_answer};
 ghost use Rattle.reader.specs.Refusals.{answer_from};

@@ -1,6 +1,9 @@
 // The records of K and C, 16 bytes each: the second byte is the number n of conditions, and each condition stands in a
 // slot of its own. The slots beyond the n, and the last 2 bytes, are zero bytes.
-ghost use Rattle.std.specs.Prelude.{ℕ, Bool, List, ◌≡◌, ◌+◌, ◌*◌, ◌≤◌, ◌<◌, length};
+// A record stays a table and a number, with the bound in each clause: of a type of the two each clause would say
+// `record.now.table` and `record.now.i` where the definitions take `records` and `i`. `roles ≤ 8` stays a clause too,
+// as in `codes`: a type of it would be named more often than it is said.
+ghost use Rattle.std.specs.Prelude.{ℕ, Bool, not, List, ◌≡◌, ◌+◌, ◌*◌, ◌≤◌, ◌<◌, length};
 ghost use Rattle.folds.specs.Below.{all_below};
 ghost use Rattle.reader.specs.Fields.{condition_count};
 ghost use Rattle.reader.specs.Rules.{slot_bad, rest_bad};
@@ -8,7 +11,7 @@ ghost use Rattle.reader.specs.Rules.{slot_bad, rest_bad};
 use crate::bytes;
 
 // Inner: a condition, as the slots of a table have it.
-pub trait Condition: Copy {
+pub trait Condition: Copy + Default + PartialEq {
     // The slots of a record.
     const SLOTS: usize;
 
@@ -32,7 +35,13 @@ pub trait Condition: Copy {
 
     // Inner: not all bytes of the slot are zero.
     fn is_nonzero(self) -> bool
-        ensures { result ≡ nonzero self };
+        ensures { result ≡ nonzero self }
+    {
+        self != Self::default()
+    }
+
+    // What isn't the default is nonzero.
+    ghost blank: { (x d : Self) → Self.is_default d → not (Self.eq x d) ≡ nonzero x };
 }
 
 // Inner: the number of conditions of record i.

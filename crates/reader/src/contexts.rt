@@ -1,4 +1,5 @@
 // The records of C: refusal 7.
+ghost use Rattle.std.proofs.Common.{rules};
 ghost use Rattle.std.specs.Prelude.{◌≡◌, ◌+◌, ◌*◌, ◌≤◌, ◌<◌, length};
 ghost use Rattle.reader.specs.Fields.{context_parameter, context_operator, context_value};
 ghost use Rattle.reader.specs.Rules.{context_condition_bad, some_nonzero, context_bad, contexts_bad};
@@ -7,19 +8,12 @@ use crate::conditions::{Condition, rest_bad};
 use crate::{RANGES, bytes};
 
 // Inner: a condition on a context.
-#[derive(Clone, Copy, PartialEq, Eq)]
+#[derive(Clone, Copy, Default, PartialEq, Eq)]
 pub struct ContextCondition {
     pub parameter: u8,
     pub operator: u8,
     pub value: u16,
 }
-
-// What a slot that isn't used reads as.
-const BLANK: ContextCondition = ContextCondition {
-    parameter: 0,
-    operator: 0,
-    value: 0,
-};
 
 impl Condition for ContextCondition {
     const SLOTS: usize = 3;
@@ -50,9 +44,7 @@ impl Condition for ContextCondition {
         2 < self.parameter || 5 < self.operator || RANGES[usize::from(self.parameter)] <= self.value
     }
 
-    fn is_nonzero(self) -> bool {
-        self != BLANK
-    }
+    ghost blank = { Prim.search rules };
 }
 
 fn context_bad(c: &[u8], i: usize) -> bool

@@ -1,4 +1,5 @@
-// The policies of an accepted base, by number.
+// The policies of an accepted base, read field by field, by number, as the definitions name the fields: of a struct of
+// the five fields a clause would have to say of which number it is.
 ghost use Rattle.std.specs.Prelude.{◌≡◌, false, ◌⊎◌, ◌≤◌, ◌<◌, List, ℕ, eqb};
 ghost use Rattle.reader.specs.Tables.{policies, table_of, record_count};
 ghost use Rattle.reader.specs.Fields.{policy_role, policy_permission, policy_weight, policy_type, policy_context};
@@ -86,8 +87,8 @@ impl<'a> Policies<'a> {
         a[8 * i + 3] == 1
     }
 
-    // Inner: its context number. No `Option`: 255 has a slot and a clause of its own as the others do, so that every
-    // caller would turn None back into it.
+    // Inner: its context number. No `Option`: the definitions take the number, 255 too, and each clause would say
+    // `unwrap_or number 255` for it.
     pub fn context(&self, i: usize) -> u8
         requires { i < record_count policies self.now }
         ensures { (result ≡ policy_context self.now i) × ((result ≤ 15) ⊎ (result ≡ 255)) }
