@@ -134,8 +134,8 @@ impl<'a> Trailer<'a> {
         ensures { result ≡ tables_bad self.now }
     {
         let mut at: usize = 0;
-        // Each table's end is where the next has to start. No `try_fold`: its closure would hand that on in an `Option`,
-        // and say no more.
+        // Each table's end is where the next has to start. No `try_fold`: its closure would hand that on in an
+        // `Option`, and say no more.
         for (t, room) in ROOMS.iter().enumerate() {
             let place = self.place(t);
             if room.limit < place.count || place.offset != at {

@@ -1,5 +1,6 @@
 -- `write_row` meets its contract: the filter gives the row's numbers in order, and each turn writes one's record.
-use Rattle.std.proofs.Common.{ℕ, ◌≡◌, ◌+◌, ◌<◌, ◌≤◌, List, ◌∷◌, [], Bool, length, refl, sym, ap, arith, rules, ◌∙◌, ◌++◌}
+use Rattle.std.proofs.Common.{ℕ, ◌≡◌, ◌+◌, ◌<◌, ◌≤◌, List, ◌∷◌, [], Bool, length, refl, sym, ap, arith}
+use Rattle.std.proofs.Common.{rules, ◌∙◌, ◌++◌}
 use denote.Param.Members.{Mut}
 use denote.Ref.{Bor}
 use mathlib.Core.List.{map-id}
