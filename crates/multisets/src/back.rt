@@ -11,8 +11,8 @@ pub fn group(ends: &[u8], from: &[u16], n: usize, x: usize) -> [u8; 12]
 {
     let mut out = [255u8; 12];
     let mut at = x;
-    // Each entry, at 8 times a place and a role, tells where the one before it stands. Of what `chunks_exact_mut` writes
-    // no proof would know.
+    // Each entry, at 8 times a place and a role, tells where the one before it stands. Of what `chunks_exact_mut`
+    // writes no proof would know.
     for left in (0..n).rev() {
         let entry = from[at];
         out[2 * left] = ends[at] - 1;
