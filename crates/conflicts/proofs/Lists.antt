@@ -1,30 +1,31 @@
 -- Laws of the conflict list: records written one behind the other, their number, and the rows of bits as the list.
 use Prim.Native.Nat.{ℕ, zero, suc, ◌+◌, ◌-◌, ◌*◌, ◌^◌, ◌<◌, ◌≤◌}
-use mathlib.Core.Bool.{Bool, true, false, ◌&&◌, cond}
+use mathlib.Core.Bool.{Bool, true, false, ◌&&◌, not, cond, and-true}
 use mathlib.Core.Path.{◌≡◌, refl, sym, ap, ap₂, ◌∙◌}
-use mathlib.Core.List.{List, [], ◌∷◌, ◌++◌, append_assoc, map-id}
+use mathlib.Core.List.{List, [], ◌∷◌, ◌++◌, append_assoc}
 use native.Mathlib.Numerals.{add-one}
-use native.Mathlib.Nat.{add-zero, zero-add}
+use native.Mathlib.Nat.{add-zero, zero-add, not-suc-le-zero}
 use native.Mathlib.Omega.{arith}
 use borrow.Rule.Slice.PartMut.{put_mid}
-use borrow.Author.Tests.{lt-ltb, le-ltb}
-use lib.Count.{ones}
-use lib.Dec.{ltb}
+use borrow.Author.Tests.{lt-ltb, le-ltb, eq-eqb, ne_eqb}
+use lib.Bits.{bit_and}
+use lib.Count.{ones, count_trailing_zeros}
+use lib.Dec.{ltb, eqb}
 use lib.ListN.{length, get_or, take, drop, length-append}
 use lib.Seq.{sets, sets-eq}
-use Rattle.std.specs.List.{sum_by, filter, flat_map, range_with_len}
-use Rattle.std.proofs.lemmas.Grind.{flat_map-append}
-use Rattle.std.proofs.lemmas.List.FromFn.{filter_of_map_range_with_len_more}
+use Rattle.std.specs.List.{sum_by}
 use Rattle.std.proofs.lemmas.List.Edits.{paste_all}
 use Rattle.std.proofs.lemmas.List.Sums.{sum_by_more}
 use Rattle.std.proofs.lemmas.Slice.{put_mid-paste}
 use Rattle.folds.specs.Below.{sum_below, count_below, join_below}
 use Rattle.folds.specs.Sets.{in_set}
 use Rattle.folds.proofs.Lists.{join_none, join_more, join_tail, join_length, join_same, sets-append}
+use Rattle.folds.proofs.Tests.{split}
 use Rattle.folds.proofs.Numbers.{sum_le_sum, count_none, count_more, count_le}
-use Rattle.folds.proofs.Sets.{ones_set, set_of_members}
+use Rattle.folds.proofs.Sets.{in_none, ones_set, set_of_members}
 use Rattle.reader.specs.Rules.{refusal_of}
 use Rattle.conflicts.proofs.Tables.{few_policies, few_exclusions}
+use Rattle.folds.proofs.Lowest.{lowest, without_lowest}
 use Rattle.reader.specs.Tables.{users, policies, table_of, record_count}
 use Rattle.conflicts.specs.Conflicts.{pairs_below, conflicts, conflict_count}
 use Rattle.conflicts.specs.Rows.{Rows, Contradictions, Overlaps, Holders, row_records, rows_records, all_records}
@@ -70,47 +71,44 @@ record_if kind first p j = cond (p j) (kind ∷ first ∷ j ∷ []) []
 abbrev row_at : ℕ → List ℕ → ℕ → List ℕ
 row_at kind rows i = row_records kind i (get_or rows i 0)
 
--- the record of each of these numbers
-abbrev pub records : ℕ → ℕ → List ℕ → List ℕ
-records kind first = flat_map (λ j. kind ∷ first ∷ j ∷ [])
+-- no lists but empty ones
+join_empty : (f : ℕ → List ℕ) (n : ℕ) → ((i : ℕ) → i < n → f i ≡ []) → join_below n f ≡ []
+join_empty f n h = join_tail f 0 n (omega arith) (λ i m l. h i l) ∙ join_none f
 
--- 3 bytes each
-pub records_length : (kind first : ℕ) (xs : List ℕ) → length (records kind first xs) ≡ 3 * length xs
-records_length kind first [] = refl
-records_length kind first (x ∷ xs) = let rest = records_length kind first xs in omega arith
-
-pub records_more : (kind first : ℕ) (xs : List ℕ) (j : ℕ)
-    → records kind first (xs ++ j ∷ []) ≡ records kind first xs ++ kind ∷ first ∷ j ∷ []
-records_more kind first xs j = flat_map-append (λ j. kind ∷ first ∷ j ∷ []) xs (j ∷ [])
-
--- the numbers of a row
-abbrev pub those : ℕ → List ℕ
-those row = filter (in_set row) (range_with_len 0 64)
-
--- the records of a row are those of its numbers
-module _ (kind first : ℕ) (p : ℕ → Bool) where
-  listed : (n : ℕ) → join_below n (record_if kind first p) ≡ records kind first (filter p (range_with_len 0 n))
+-- the record of the first number of which p holds, and then those of the others
+module _ (kind first t : ℕ) (p q : ℕ → Bool) (at : p t ≡ true) (least : (j : ℕ) → j < t → p j ≡ false)
+    (others : (j : ℕ) → q j ≡ (p j && not (eqb j t))) where
+  first_record : (n : ℕ) → t < n →
+      join_below n (record_if kind first p) ≡ kind ∷ first ∷ t ∷ join_below n (record_if kind first q)
   unfolding join_below
-  listed zero = refl
-  listed (suc n) =
-      ap₂ ◌++◌ (listed n) (sym (one (p n)))
-      ∙ sym (flat_map-append (λ j. kind ∷ first ∷ j ∷ []) (filter p (range_with_len 0 n)) _)
-      ∙ ap (records kind first) (sym more)
+  first_record zero l = absurd (not-suc-le-zero l)
+  first_record (suc n) l =
+      split l
+      (λ e. rw (← e, at, none, none_left, others t, at, eq-eqb t t refl))
+      (λ m. let d : eqb n t ≡ false = ne_eqb n t (λ e. omega arith) in rw (first_record n m, others n, d, and-true))
     where
-      more : filter p (range_with_len 0 (suc n)) ≡ filter p (range_with_len 0 n) ++ cond (p n) (n ∷ []) []
-      more =
-          ap (λ m. filter p (range_with_len 0 m)) (sym (add-one n))
-          ∙ ap (filter p) (sym (map-id (range_with_len 0 (n + 1))))
-          ∙ filter_of_map_range_with_len_more p (λ x. x) 0 n n (zero-add n)
-          ∙ ap (λ xs. filter p xs ++ cond (p n) (n ∷ []) []) (map-id (range_with_len 0 n))
+      none : join_below t (record_if kind first p) ≡ []
+      none = join_empty (record_if kind first p) t (λ j m. rw (least j m))
 
-      one : (b : Bool) → records kind first (cond b (n ∷ []) []) ≡ cond b (kind ∷ first ∷ n ∷ []) []
-      one true = refl
-      one false = refl
+      none_left : join_below t (record_if kind first q) ≡ []
+      none_left = join_empty (record_if kind first q) t (λ j m. rw (others j, least j m))
 
-pub row_listed : (kind first row : ℕ) → row_records kind first row ≡ records kind first (those row)
+-- the records of a row: that of its lowest bit, and those of the rest
+pub row_next : (kind first row : ℕ) → 0 < row → row < 2 ^ 64
+    → row_records kind first row
+    ≡ kind ∷ first ∷ count_trailing_zeros 64 row ∷ row_records kind first (bit_and row (row - 1))
 unfolding row_records
-row_listed kind first row = listed kind first (in_set row) 64
+row_next kind first row h l =
+    let t = count_trailing_zeros 64 row in
+    let low = lowest 64 row h l in
+    let rest = bit_and row (row - 1) in
+    let others = without_lowest 64 row t low in
+    first_record kind first t (in_set row) (in_set rest) low.member low.least others 64 low.below
+
+-- an empty row has none
+pub row_none : (kind first : ℕ) → row_records kind first 0 ≡ []
+unfolding row_records
+row_none kind first = join_empty (record_if kind first (in_set 0)) 64 (λ j l. rw (in_none j))
 
 -- no rows have none
 pub rows_none : (kind : ℕ) (rows : List ℕ) → rows_records kind rows 0 ≡ []

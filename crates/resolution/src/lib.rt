@@ -32,7 +32,7 @@ impl TryFrom<u8> for Rule {
 }
 
 impl Rule {
-    // It puts policy i of the table A before policy j.
+    // It puts policy i of the table A before policy j. No `Ordering`: the definition asks this of a rule, both ways.
     fn puts_before(self, a: &[u8], i: usize, j: usize) -> bool
         requires { (8 * i + 8 ≤ length a.now) × (8 * j + 8 ≤ length a.now) }
         ensures { result ≡ rule_before (byte_of self) a.now i j }
