@@ -2,11 +2,13 @@
 #![tactic(auto)]
 
 ghost use Rattle.std.specs.Prelude.{◌≡◌, ◌+◌, ◌*◌, ◌≤◌, ◌<◌, IfOk, length, take};
+ghost use Rattle.std.specs.Ordering.{is_lt, is_gt};
 ghost use Rattle.reader.specs.Refusals.{number_of};
 ghost use Rattle.resolution.specs.Rules.{byte_of, Names};
 ghost use Rattle.resolution.specs.Resolution.{rule_before, goes_before, repeated, list_refused, lent};
 
 use reader::{Base, Refusal, bytes};
+use std::cmp::Ordering;
 
 // What goes first of two policies: the later issue day, the larger rank number or the smaller weight.
 #[derive(Clone, Copy)]
@@ -32,17 +34,18 @@ impl TryFrom<u8> for Rule {
 }
 
 impl Rule {
-    // It puts policy i of the table A before policy j.
-    fn puts_before(self, a: &[u8], i: usize, j: usize) -> bool
+    // How policies i and j of the table A stand by it: `Less` where it puts i before j.
+    fn compare(self, a: &[u8], i: usize, j: usize) -> Ordering
         requires { (8 * i + 8 ≤ length a.now) × (8 * j + 8 ≤ length a.now) }
-        ensures { result ≡ rule_before (byte_of self) a.now i j }
+        ensures before { is_lt result ≡ rule_before (byte_of self) a.now i j }
+        ensures after { is_gt result ≡ rule_before (byte_of self) a.now j i }
     {
         let x = 8 * i;
         let y = 8 * j;
         match self {
-            Rule::LaterDay => bytes::get16(a, y + 6) < bytes::get16(a, x + 6),
-            Rule::LargerRank => a[y + 5] < a[x + 5],
-            Rule::SmallerWeight => a[x + 2] < a[y + 2],
+            Rule::LaterDay => bytes::get16(a, y + 6).cmp(&bytes::get16(a, x + 6)),
+            Rule::LargerRank => a[y + 5].cmp(&a[x + 5]),
+            Rule::SmallerWeight => a[x + 2].cmp(&a[y + 2]),
         }
     }
 }
@@ -94,11 +97,10 @@ pub fn goes_before(list: &[u8], a: &[u8], i: usize, j: usize) -> bool
 {
     for &byte in list {
         if let Ok(rule) = Rule::try_from(byte) {
-            if rule.puts_before(a, i, j) {
-                return true;
-            }
-            if rule.puts_before(a, j, i) {
-                return false;
+            match rule.compare(a, i, j) {
+                Ordering::Less => return true,
+                Ordering::Greater => return false,
+                Ordering::Equal => {}
             }
         }
     }

@@ -6,7 +6,7 @@ use lib.ListN.{drop_of_length-le}
 use Rattle.resolution.specs.Resolution.{rule_before, goes_before}
 use Rattle.resolution.proofs.goes_before.Invariants.{Turn}
 use Rattle.resolution.proofs.goes_before.Goals as goal
-use Rattle.resolution.proofs.goes_before.Goals.{in-Ok+else-puts_before+else-puts_before-2, in_default}
+use Rattle.resolution.proofs.goes_before.Goals.{in-Ok+in-Equal, in_default}
 
 -- a byte that is no rule puts none before another
 no_rule : (byte : ℕ) (a : List ℕ) (i j : ℕ) → 2 < byte → false ≡ rule_before byte a i j
@@ -44,21 +44,21 @@ module _ {list a : List ℕ} {i j k : ℕ} (turn : Turn list a i j k) where
   unfolding goes_before
   ended past = sym (turn.left ∙ rw (drop_of_length-le list past))
 
-pub returns-then-puts_before : goal.returns-then-puts_before
-returns-then-puts_before c =
-    first c.loop-byte.invariant c.loop-byte-test.true (rw c.in-Ok.ensures at c.if-puts_before.ensures)
+pub returns-in-Less : goal.returns-in-Less
+returns-in-Less c =
+    first c.loop-byte.invariant c.loop-byte-test.true (rw c.in-Ok.ensures at c.in-Less.ensures.before)
 
-pub returns-then-puts_before-2 : goal.returns-then-puts_before-2
-returns-then-puts_before-2 c =
-    second c.loop-byte.invariant c.loop-byte-test.true (rw c.in-Ok.ensures at c.if-puts_before.ensures)
-    (rw c.in-Ok.ensures at c.if-puts_before-2.ensures)
+pub returns-in-Greater : goal.returns-in-Greater
+returns-in-Greater c =
+    second c.loop-byte.invariant c.loop-byte-test.true (rw c.in-Ok.ensures at c.in-Greater.ensures.before)
+    (rw c.in-Ok.ensures at c.in-Greater.ensures.after)
 
 pub loop-byte-preserved : goal.loop-byte-preserved
 loop-byte-preserved c =
     elim c.match-try_from.branch [
-      | in-Ok+else-puts_before+else-puts_before-2 w ↦
-          again c.loop-byte.invariant c.loop-byte-test.true (rw w.in-Ok.ensures at w.if-puts_before.ensures)
-          (rw w.in-Ok.ensures at w.if-puts_before-2.ensures)
+      | in-Ok+in-Equal w ↦
+          again c.loop-byte.invariant c.loop-byte-test.true (rw w.in-Ok.ensures at w.in-Equal.ensures.before)
+          (rw w.in-Ok.ensures at w.in-Equal.ensures.after)
       | in_default w ↦
           again c.loop-byte.invariant c.loop-byte-test.true (no_rule _ _ _ _ w.in_default.ensures.1)
           (no_rule _ _ _ _ w.in_default.ensures.1)
