@@ -22,7 +22,8 @@ fn seniors_of(juniors: &[u8; 8], j: u8) -> u8
         .fold(0, |set, s| set | sets::role_bit(s))
 }
 
-// The set of the roles that policy i covers.
+// The set of the roles that policy i covers, by the juniors of each role as the setting has them: `Acting` would bring
+// its base along.
 fn cover(a: &Policies<'_>, i: usize, juniors: &[u8; 8]) -> u8
     requires { i < record_count policies a.now }
     ensures { (h : List ℕ) → Juniors h juniors.now → (s : ℕ) → s < 8 → in_set result s ≡ covers h a.now i s }

@@ -1,4 +1,5 @@
-// The conflicts of each kind as rows of bits, a row for each first.
+// The conflicts of each kind as rows of bits, a row for each first. Users and roles, and a record's bound, come as the
+// definitions take them.
 ghost use Rattle.std.specs.Prelude.{◌≡◌, false, ◌&&◌, ◌⊎◌, ℕ, Bool, ◌+◌, ◌*◌, ◌/◌, ◌≤◌, ◌<◌, length, get_or, ltb};
 ghost use Rattle.folds.specs.Sets.{in_set};
 ghost use Rattle.reader.specs.Tables.{users, policies, table_of, record_count};

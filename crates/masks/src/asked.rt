@@ -68,8 +68,8 @@ impl Striking<'_> {
             × NarrowedAll k.now own own (length self.old.sums.now) self.old.asked self.old.sums.now }
         ensures { AllStruck k.now own self.old self.new }
     {
-        // Bit by bit, as the conflict list is written: 64 tests for each permission would take the small shop's report
-        // past the bar, 1.15 times the twin's instructions.
+        // Bit by bit, as the conflict list is written: a filter over the 64 numbers needs a test of its own and is no
+        // plainer.
         let mut rest = own;
         while rest != 0 {
             let i = some_clause(rest);

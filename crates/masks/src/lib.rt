@@ -30,7 +30,8 @@ pub struct Weighed {
 }
 
 // Inner: writes for each sum and each set of roles the clauses of `own` that it meets; for each number of entries more
-// those that may be met with so many. `counts` are the sets' numbers of roles.
+// those that may be met with so many. `counts` are the sets' numbers of roles. k is the table's bytes: `Ready`, and
+// `Seeking` above, say of them and of the counts what a search needs, at once.
 pub fn masks_for(
     k: &[u8],
     own: u64,

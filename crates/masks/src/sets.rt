@@ -1,5 +1,7 @@
 // The masks of the sets of roles: for each set of roles below `end` the clauses that it meets together with the roles
 // of `start`; none where one of its roles has no weight.
+// Bounds of a few words (`end ≤ 8`) stay clauses. What is asked of the counts differs, so no type says it: those of the
+// sets below `end`, or those of such sets with `start`.
 ghost use Rattle.std.specs.Prelude.{◌≡◌, List, ℕ, ◌+◌, ◌^◌, ◌≤◌, ◌<◌, length, get_or};
 ghost use Rattle.std.specs.Int.Bits.{bit_or};
 ghost use Rattle.decision.specs.Conditions.{role_num};
@@ -15,8 +17,7 @@ pub fn role_counts(counts: &mut [u8; 256], end: usize)
     requires { end ≤ 256 }
     ensures { RoleCounts end counts.new }
 {
-    // No `array::from_fn`: it would count all 256, and by reckoning take the small shop's report past 1.15 times the
-    // twin's instructions.
+    // No `array::from_fn`: it would make all 256, and test each number against `end`.
     for (v, count) in counts[..end].iter_mut().enumerate() {
         *count = conditions::role_num(v as u8) as u8;
     }

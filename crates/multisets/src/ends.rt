@@ -6,7 +6,7 @@ ghost use Rattle.multisets.specs.Ends.{NextEnd, NextEnds, NextTable};
 use std::marker::Model;
 
 // Inner: at 8 * place + role the end after the next user from there on who may act in the role, at most 24, or 255;
-// seen as its bytes. Whose users they are `NextEnds` says.
+// seen as its bytes, flat as the definitions read them. Whose users they are `NextEnds` says.
 #[derive(Clone, Copy)]
 pub struct Nexts {
     pub(crate) ends: [u8; 200],

@@ -77,6 +77,7 @@ impl<const ROWS: usize, const PLACES: usize> Reached<ROWS, PLACES> {
             × (self.new.rows ≡ self.old.rows) }
     {
         let end = self.ends[i];
+        // no end, as `ends` has it
         if end == 255 {
             return;
         }

@@ -1,4 +1,5 @@
-// Where the multisets of n roles with a given largest role start, by rank and in a table.
+// Where the multisets of n roles with a given largest role start, by rank and in a table. Bounds of a few words stay
+// clauses.
 ghost use Rattle.std.specs.Prelude.{◌≡◌, ◌≤◌};
 ghost use Rattle.multisets.specs.Ranks.{starts, first, Starts};
 

@@ -1,4 +1,5 @@
-// The sums of roles' weights and the sets of roles, by multiset.
+// The sums of roles' weights and the sets of roles, by multiset. Bounds of a few words (`n ≤ 5`, `d ≤ 8`) stay clauses,
+// and `SumsFit`, for n differs from call to call.
 ghost use Rattle.std.specs.Prelude.{◌≡◌, ℕ, suc, ◌+◌, ◌*◌, ◌^◌, ◌≤◌, ◌<◌, length, get_or};
 ghost use Rattle.multisets.specs.Ranks.{first};
 ghost use Rattle.multisets.specs.Values.{Held, set_at, Steps, Written};

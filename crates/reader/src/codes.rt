@@ -1,5 +1,5 @@
 // Membership: a user's parameter against the roles' identity codes (refusal 5). `roles ≤ 8` is a clause: a type of it
-// would be named more often than it is said.
+// would be named more often than it is said. Users and roles come as two, as the definitions take them.
 ghost use Rattle.std.specs.Prelude.{true, ◌≡◌, ◌/◌, ◌≤◌, ◌<◌};
 ghost use Rattle.reader.specs.Codes.{codes, code_of, parameter_ok, code_divides, held_by, roles_read, parameter_answer};
 ghost use Rattle.reader.specs.Refusals.{answer_from};
@@ -41,7 +41,7 @@ fn try_codes(x: u32, roles: u8) -> Result<u32, Refused>
 {
     let mut rest = x;
     let mut count: u32 = 0;
-    // By role: it indexes two tables.
+    // By role, as document 01 asks: it indexes two tables.
     for r in 0..usize::from(roles) {
         if rest == 1 {
             return Ok(count);

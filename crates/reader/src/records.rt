@@ -44,6 +44,7 @@ fn exclusion_bad(x: &[u8], i: usize, numbers: Numbers) -> bool
     let at = 3 * i;
     let kind = x[at];
     let second = x[at + 2];
+    // By the byte: before this check it may be any of 256.
     let end = if kind == 0 {
         numbers.roles
     } else {

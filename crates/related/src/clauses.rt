@@ -44,7 +44,8 @@ impl<'a> ContextClauses<'a> {
         ContextClauses { table }
     }
 
-    // Clause i is one of the context number; 255 counts as one clause without conditions, behind the others.
+    // Clause i is one of the context number; 255 counts as one clause without conditions, behind the others, as the
+    // definition has it.
     fn clause_of(&self, number: u8, i: usize) -> bool
         ensures { result ≡ clause_of self.now number i }
     {

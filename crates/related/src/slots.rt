@@ -9,6 +9,7 @@ use crate::clauses::ContextClauses;
 use std::array;
 
 // Inner: the place of a context number in the rows: its own, 0 to 15; 16 for 255, the base's number of no context.
+// No `Option` for it: the definitions take the number.
 pub fn slot(number: u8) -> u8
     requires { (number ≤ 15) ⊎ (number ≡ 255) }
     ensures { (result ≡ slot_of number) × (result ≤ 16) }
@@ -56,7 +57,7 @@ fn relation_row(c: &ContextClauses<'_>, names: u32, s: u8) -> u32
     }
 }
 
-// Inner: the related slots, a row a slot.
+// Inner: the related slots, a row a slot. Of bytes: the type of such a table is of a private module, and made here.
 pub fn relations(c: &[u8], names: u32) -> [u32; 17]
     requires { (contexts_bad c.now ≡ false) × (length c.now ≡ 16 * record_count contexts c.now) }
     ensures { Relations c.now names result }

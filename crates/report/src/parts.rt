@@ -21,7 +21,8 @@ fn acting_sets(base: &Base<'_>, fixed: Fixed) -> [u8; 24]
     std::array::from_fn(|u| acting.roles(u))
 }
 
-// What a report goes by for every permission: the setting, the weights that count, and the sets' numbers of roles.
+// What a report goes by for every permission: the setting, the weights that count, and the sets' numbers of roles. Base
+// and setting stay two values, as beside `Fixed`.
 #[derive(Clone, Copy)]
 pub struct Grounds {
     pub fixed: Fixed,

@@ -95,6 +95,7 @@ pub fn goes_before(list: &[u8], a: &[u8], i: usize, j: usize) -> bool
     requires { (8 * i + 8 ≤ length a.now) × (8 * j + 8 ≤ length a.now) }
     ensures { result ≡ goes_before list.now a.now i j }
 {
+    // A loop over the rules: a chain's `find` would hand an `Ordering` on in an `Option`, to be matched again.
     for &byte in list {
         if let Ok(rule) = Rule::try_from(byte) {
             match rule.compare(a, i, j) {

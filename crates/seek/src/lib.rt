@@ -21,7 +21,7 @@ pub struct Masks {
 }
 
 // A level's places, with their ends, sums and sets of roles; and the masks and the row for which they are looked
-// through.
+// through. `Roomy` says how many places there are: each method asks for those that it reads.
 #[derive(Drop)]
 struct Level<'a> {
     ends: &'a [u8],

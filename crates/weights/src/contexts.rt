@@ -41,7 +41,8 @@ fn clause_holds(c: &[u8], i: usize, at: Context) -> bool
     })
 }
 
-// Inner: the set of the context numbers that hold, by a table C that passed the check.
+// Inner: the set of the context numbers that hold, by a table C that passed the check. Of bytes: the type of such a
+// table is of a crate above (`related`), and asks for whole records too.
 pub fn holding(c: &[u8], at: Context) -> u32
     requires { contexts_bad c.now ≡ false }
     ensures { Holding at c.now result }
