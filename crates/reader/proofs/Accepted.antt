@@ -12,7 +12,7 @@ use lib.Dec.{ltb, eqb}
 use lib.ListN.{length}
 use Rattle.folds.proofs.Bools.{or_left, or_right, none_met, clash, met_or_not}
 use Rattle.folds.proofs.Tests.{any_at, any_each}
-use Rattle.reader.specs.Fields.{senior, junior, parameter, clause_permission, clause_length}
+use Rattle.reader.specs.Fields.{senior, junior, parameter, first_day, last_day, clause_permission, clause_length}
 use Rattle.reader.specs.Fields.{condition_attribute, condition_operator, condition_value}
 use Rattle.reader.specs.Fields.{context_number, context_length, context_parameter, context_operator, context_value}
 use Rattle.reader.specs.Fields.{policy_role, policy_permission, policy_weight, policy_type, policy_context}
@@ -82,6 +82,10 @@ record_within t r i h =
 pub record HierarchyFine (R : ℕ) (h : List ℕ) (i : ℕ) : Type 0 where
   pub down : senior h i < junior h i
   pub role : junior h i < R
+
+pub record UserFine (R : ℕ) (u : List ℕ) (i : ℕ) : Type 0 where
+  pub product : parameter_ok R (parameter u i) ≡ true
+  pub days : first_day u i ≤ last_day u i
 
 -- attributes 0 to 2 with operators 0 to 5, or attribute 3 with operator 6 and a set of roles below R
 pub record ConditionFine (R attribute operator value : ℕ) : Type 0 where
@@ -170,9 +174,14 @@ module _ (R P : ℕ) (r : List ℕ) (i : ℕ) where
       let k = any_at (hierarchy_record_bad R r) _ h i l in
       record { down = below _ _ (or_left _ _ k); role = below _ _ (or_right (not (ltb (senior r i) (junior r i))) _ k) }
 
-  pub user_fine : users_bad R r ≡ false → i < record_count users r → parameter_ok R (parameter r i) ≡ true
+  pub user_fine : users_bad R r ≡ false → i < record_count users r → UserFine R r i
   unfolding users_bad
-  user_fine h l = not-false _ (any_at (user_bad R r) _ h i l)
+  user_fine h l =
+      let k = any_at (user_bad R r) _ h i l in
+      record {
+        product = not-false _ (or_left _ _ k);
+        days = ltb-false _ _ (or_right (not (parameter_ok R (parameter r i))) _ k);
+      }
 
   pub clause_fine : clauses_bad R P r ≡ false → i < record_count clauses r → ClauseFine R P r i
   unfolding clauses_bad clause_bad clause_slot_bad
@@ -265,7 +274,7 @@ unfolding held_by
 holds_set b ok u l =
     let A = accepted b ok in
     let R = role_count b in
-    let fine = user_fine R 0 (table_of b 1) u A.users l in
+    let fine = (user_fine R 0 (table_of b 1) u A.users l).product in
     let (s, small, e, m) = roles_held R _ (roles_range b A.frame).1 fine in (
       s,
       small,

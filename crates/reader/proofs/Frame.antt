@@ -9,7 +9,7 @@ use borrow.Author.Tests.{leb-true, ltb-true, ltb-false, eqb-true, not-false, lt-
 use lib.Dec.{lit<, leb, ltb}
 use lib.ListN.{length, length-take, length-drop}
 use Rattle.std.proofs.lemmas.Bool.Decides.{nat_tests}
-use Rattle.folds.specs.Below.{all_below, any_below}
+use Rattle.folds.specs.Below.{all_below, any_below, sum_below}
 use Rattle.folds.proofs.Bools.{or_left, or_right}
 use Rattle.folds.proofs.Tests.{all_at, any_at}
 use Rattle.folds.proofs.Numbers.{sum_step, sum_le_sum}
@@ -33,6 +33,11 @@ limit_le t h = leb-true _ _ (all_at (λ k. leb (limit k) 64) 7 refl t h)
 pub records_size : (t n : ℕ) → t < 7 → n ≤ limit t → n * width t ≤ 1024
 records_size t n there few = mul-le-mul {n₂ = 64} {m₂ = 16} (le_trans few (limit_le t there)) (width_le t there)
 
+-- the longest base, of full tables, has 2,460 bytes
+pub longest : sum_below 7 (λ t. limit t * width t) + 36 ≡ 2460
+unfolding sum_below
+longest = refl
+
 -- a base that passes refusal 1 has a trailer
 pub long_enough : (b : List ℕ) → length_bad b ≡ false → 36 ≤ length b
 unfolding length_bad
@@ -41,7 +46,7 @@ long_enough b h = ltb-false _ _ (or_left _ _ h)
 -- a base that has its tables: none of 1 to 3 applies
 pub record Framed (b : List ℕ) : Type 0 where
   pub long : 36 ≤ length b
-  pub short : length b ≤ 2364
+  pub short : length b ≤ 2460
   pub letters : letters_bad b ≡ false
   pub roles : roles_bad b ≡ false
   pub reserved : reserved_bad b ≡ false

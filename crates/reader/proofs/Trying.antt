@@ -1,14 +1,14 @@
 -- How many codes the check of a parameter tries (02, Six): the three cases as laws, and the rest that is 1 for the
 -- first time.
 use Prim.Native.Nat.{ℕ, zero, suc, ◌+◌, ◌^◌, ◌<◌, ◌≤◌}
-use mathlib.Core.Bool.{Bool, true, false, not, cond}
+use mathlib.Core.Bool.{Bool, true, false, ◌||◌, not, cond}
 use mathlib.Core.List.{List}
 use mathlib.Core.Path.{◌≡◌, refl, sym, ap, ◌∙◌}
 use mathlib.Core.Logic.{⊎_elim}
 use native.Mathlib.Numerals.{add-one}
 use native.Mathlib.Nat.{not-suc-le-zero, eq-or-lt_of_le, le_of_suc-le-suc, mod-eq_of_lt}
 use native.Mathlib.Omega.{arith}
-use lib.Dec.{eqb}
+use lib.Dec.{ltb, eqb}
 use borrow.Author.Tests.{eqb-true, eq-eqb, lt-ltb, le-ltb}
 use Rattle.folds.specs.Below.{any_below}
 use Rattle.folds.specs.Sets.{in_set}
@@ -16,7 +16,7 @@ use Rattle.folds.proofs.Bools.{met_or_not, never_met, clash}
 use Rattle.folds.proofs.Tests.{split, any_found, any_same, first_lt, first_at}
 use Rattle.folds.proofs.Sets.{in_set_below, same_set}
 use Rattle.reader.specs.Tables.{users, record_count}
-use Rattle.reader.specs.Fields.{parameter}
+use Rattle.reader.specs.Fields.{parameter, first_day, last_day}
 use Rattle.reader.specs.Rules.{users_bad}
 use Rattle.reader.specs.Codes.{code_product, parameter_ok, code_divides, roles_of_product, highest_below, codes_tried}
 use Rattle.reader.specs.Codes.{roles_read, parameter_answer}
@@ -147,17 +147,19 @@ pub answer_read : {R : ℕ} (n x : ℕ) → R ≡ roles_read n → R ≤ 8 → p
 unfolding parameter_answer
 answer_read {R} n x e few = rw (read_few R few, e)
 
--- refusal 5 of a base is the answer 5 to the parameter of one of its users
+-- refusal 5 of a base is the answer 5 to the parameter of one of its users, or a first day above the last
 pub users_answered : (R : ℕ) (u : List ℕ) → R ≤ 8 →
-    users_bad R u ≡ any_below (record_count users u) (λ i. eqb (parameter_answer R (parameter u i)).refusal 5)
+    users_bad R u ≡
+    any_below (record_count users u)
+    (λ i. eqb (parameter_answer R (parameter u i)).refusal 5 || ltb (last_day u i) (first_day u i))
 unfolding users_bad parameter_answer
 users_answered R u h =
     any_same _ _ (record_count users u)
-    (λ i l. rw (read_few R h) (by (parameter_ok R (parameter u i))))
+    (λ i l. rw (read_few R h) (by (parameter_ok R (parameter u i)) (ltb (last_day u i) (first_day u i))))
   where
-    by : (ok : Bool) → not ok ≡ eqb (cond ok 0 5) 5
-    by true = refl
-    by false = refl
+    by : (ok late : Bool) → (not ok || late) ≡ (eqb (cond ok 0 5) 5 || late)
+    by true late = refl
+    by false late = refl
 
 -- what the loop shows: as many codes are tried as it takes roles for a product
 pub tried_least : (R x n : ℕ) → R ≤ 8 → n ≤ R → parameter_ok n x ≡ true →

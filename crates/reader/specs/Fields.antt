@@ -11,9 +11,15 @@ senior h i = get_or h (width hierarchy * i) 0
 abbrev pub junior : List ℕ → ℕ → ℕ
 junior h i = get_or h (width hierarchy * i + 1) 0
 
--- U: role assignment parameter
+-- U: role assignment parameter; first day, last day in 2 bytes each
 abbrev pub parameter : List ℕ → ℕ → ℕ
 parameter u i = word32 u (width users * i)
+
+abbrev pub first_day : List ℕ → ℕ → ℕ
+first_day u i = word16 u (width users * i + 4)
+
+abbrev pub last_day : List ℕ → ℕ → ℕ
+last_day u i = word16 u (width users * i + 6)
 
 -- P: operation, object
 abbrev pub operation : List ℕ → ℕ → ℕ

@@ -5,7 +5,7 @@ use Rattle.reader.specs.declared.refusal.Refusal.TheVariants.{BaseLength, Letter
 use Rattle.reader.specs.declared.refusal.Refusal.TheVariants.{Contexts, Policies, Exclusions, Permission, Context}
 use Rattle.reader.specs.declared.refusal.Refusal.TheVariants.{GroupLength, Unknown, Twice, Ineligible, Weightless}
 use Rattle.reader.specs.declared.refusal.Refusal.TheVariants.{Unmet, ConflictRoom, ReportRoom, FullSheet, Change}
-use Rattle.reader.specs.declared.refusal.Refusal.TheVariants.{Rules, NotSigned}
+use Rattle.reader.specs.declared.refusal.Refusal.TheVariants.{Rules, NotSigned, OutOfDate}
 use Rattle.reader.specs.declared.refusal.Refused.{Refused}
 use Rattle.reader.specs.declared.Answer.{Answer}
 
@@ -34,6 +34,7 @@ refusal_number FullSheet = 20
 refusal_number Change = 21
 refusal_number Rules = 22
 refusal_number NotSigned = 23
+refusal_number OutOfDate = 24
 
 -- a refusal that carries 0
 abbrev pub carrying_nothing : Refusal → Refused

@@ -4,7 +4,7 @@ use Rattle.std.specs.Prelude.{ℕ, ◌^◌, Bool, ◌&&◌, ◌||◌, not, cond,
 use Rattle.folds.specs.Below.{any_below}
 use Rattle.reader.specs.Tables.{hierarchy, users, clauses, contexts, policies, exclusions, record_count}
 use Rattle.reader.specs.Tables.{role_count, permission_count, table_of, length_bad, letters_bad, trailer_bad}
-use Rattle.reader.specs.Fields.{senior, junior, parameter, clause_permission, clause_length}
+use Rattle.reader.specs.Fields.{senior, junior, parameter, first_day, last_day, clause_permission, clause_length}
 use Rattle.reader.specs.Fields.{condition_attribute, condition_operator, condition_value}
 use Rattle.reader.specs.Fields.{context_number, context_length, context_parameter, context_operator, context_value}
 use Rattle.reader.specs.Fields.{condition_count, zero_byte14, zero_byte15}
@@ -27,9 +27,9 @@ unfoldable pub hierarchy_bad : ℕ → List ℕ → Bool
 unfolding any_below
 hierarchy_bad R h = any_below (record_count hierarchy h) (hierarchy_record_bad R h)
 
--- refusal 5: a user's parameter is no product of different codes of roles below R
+-- refusal 5: a user's parameter is no product of different codes of roles below R, or the first day is above the last
 abbrev pub user_bad : ℕ → List ℕ → ℕ → Bool
-user_bad R u i = not (parameter_ok R (parameter u i))
+user_bad R u i = not (parameter_ok R (parameter u i)) || ltb (last_day u i) (first_day u i)
 
 unfoldable pub users_bad : ℕ → List ℕ → Bool
 unfolding any_below

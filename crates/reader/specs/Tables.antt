@@ -28,7 +28,7 @@ exclusions = 6
 
 -- bytes a record: H, U, P, K, C, A, X
 abbrev pub widths : List ℕ
-widths = 2 ∷ 4 ∷ 2 ∷ 16 ∷ 16 ∷ 8 ∷ 3 ∷ []
+widths = 2 ∷ 8 ∷ 2 ∷ 16 ∷ 16 ∷ 8 ∷ 3 ∷ []
 
 -- records at most: H, U, P, K, C, A, X
 abbrev pub limits : List ℕ
@@ -55,15 +55,15 @@ table_count b t = word16 b (trailer b + 4 * t + 2)
 unfoldable pub role_count : List ℕ → ℕ
 role_count b = get_or b (trailer b + 28) 0
 
--- LCAP in ASCII
+-- LCAQ in ASCII
 abbrev pub letters : List ℕ
-letters = 76 ∷ 67 ∷ 65 ∷ 80 ∷ []
+letters = 76 ∷ 67 ∷ 65 ∷ 81 ∷ []
 
--- refusal 1: shorter than 36 or longer than 2,364 bytes
+-- refusal 1: shorter than 36 or longer than 2,460 bytes
 unfoldable pub length_bad : List ℕ → Bool
-length_bad b = ltb (length b) 36 || ltb 2364 (length b)
+length_bad b = ltb (length b) 36 || ltb 2460 (length b)
 
--- refusal 2: the last four bytes aren't LCAP
+-- refusal 2: the last four bytes aren't LCAQ
 abbrev pub letter_bad : List ℕ → ℕ → Bool
 letter_bad b i = not (eqb (get_or b (trailer b + 32 + i) 0) (get_or letters i 0))
 

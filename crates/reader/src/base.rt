@@ -6,7 +6,7 @@ ghost use Rattle.reader.specs.Refusals.{number_of};
 ghost use Rattle.reader.specs.Places.{place_of};
 
 use crate::trailer::Frame;
-use crate::{Refusal, Table, clauses, codes, contexts, records};
+use crate::{Refusal, Table, clauses, contexts, records, users};
 use std::marker::Model;
 
 // A lent base that the check accepts, seen as its bytes.
@@ -41,7 +41,7 @@ fn records_refusal(base: &Frame<'_>) -> Result<(), Refusal>
     if records::hierarchy_bad(base.part(Table::Hierarchy), numbers.roles) {
         return Err(Refusal::Hierarchy);
     }
-    if codes::users_bad(base.part(Table::Users), numbers.roles) {
+    if users::users_bad(base.part(Table::Users), numbers.roles) {
         return Err(Refusal::Users);
     }
     if clauses::clauses_bad(base.part(Table::Clauses), numbers) {

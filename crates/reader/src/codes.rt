@@ -1,9 +1,8 @@
-// Membership: a user's parameter against the roles' identity codes (refusal 5). `roles ≤ 8` is a clause: a type of it
+// Membership: a user's parameter against the roles' identity codes. `roles ≤ 8` is a clause: a type of it
 // would be named more often than it is said. Users and roles come as two, as the definitions take them.
 ghost use Rattle.std.specs.Prelude.{true, ◌≡◌, ◌/◌, ◌≤◌, ◌<◌};
 ghost use Rattle.reader.specs.Codes.{codes, code_of, parameter_ok, code_divides, held_by, roles_read, parameter_answer};
 ghost use Rattle.reader.specs.Refusals.{answer_from};
-ghost use Rattle.reader.specs.Rules.{users_bad};
 
 use crate::{Refusal, Refused, bytes};
 
@@ -60,8 +59,8 @@ fn try_codes(x: u32, roles: u8) -> Result<u32, Refused>
     Ok(count)
 }
 
-// The parameter is the product of different codes of roles below `roles`.
-fn parameter_ok(x: u32, roles: u8) -> bool
+// Inner: the parameter is the product of different codes of roles below `roles`.
+pub fn parameter_ok(x: u32, roles: u8) -> bool
     requires { roles ≤ 8 }
     ensures { result ≡ parameter_ok roles x }
 {
@@ -87,15 +86,7 @@ pub fn held_by(users: &[u8], roles: u8, user: usize, role: usize) -> bool
     requires { roles ≤ 8 }
     ensures { result ≡ held_by roles users.now user role }
 {
-    user < users.len() / 4
+    user < users.len() / 8
         && role < usize::from(roles)
-        && code_divides(role, bytes::get32(users, 4 * user))
-}
-
-// Inner: refusal 5.
-pub fn users_bad(users: &[u8], roles: u8) -> bool
-    requires { roles ≤ 8 }
-    ensures { result ≡ users_bad roles users.now }
-{
-    (0..users.len() / 4).any(|i| !parameter_ok(bytes::get32(users, 4 * i), roles))
+        && code_divides(role, bytes::get32(users, 8 * user))
 }

@@ -17,6 +17,7 @@ mod records;
 mod refusal;
 mod tables;
 pub mod trailer;
+pub mod users;
 
 pub use base::{Base, accept};
 pub use policies::Policies;

@@ -28,6 +28,7 @@ pub enum Refusal {
     Change = 21,
     Rules = 22,
     NotSigned = 23,
+    OutOfDate = 24,
 }
 
 // Its number in the list.

@@ -24,7 +24,7 @@ const ROOMS: [Room; 7] = [
         limit: 28,
     },
     Room {
-        width: 4,
+        width: 8,
         limit: 24,
     },
     Room {
@@ -61,7 +61,7 @@ fn room_of(t: usize) -> Room
 fn length_bad(base: &[u8]) -> bool
     ensures { result ≡ length_bad base.now }
 {
-    !(36..=2364).contains(&base.len())
+    !(36..=2460).contains(&base.len())
 }
 
 // Where a table lies, by the trailer: the byte where it starts, and how many records it has.
@@ -119,7 +119,7 @@ impl<'a> Trailer<'a> {
     fn letters_bad(&self) -> bool
         ensures { result ≡ letters_bad self.now }
     {
-        !self.base.ends_with(b"LCAP")
+        !self.base.ends_with(b"LCAQ")
     }
 
     // The three zero bytes after R, before the letters.
@@ -228,7 +228,7 @@ impl<'a> Frame<'a> {
     pub fn user_count(&self) -> usize
         ensures { result ≡ user_count self.now }
     {
-        self.part(Table::Users).len() / 4
+        self.part(Table::Users).len() / 8
     }
 
     // Inner: the number of permissions.

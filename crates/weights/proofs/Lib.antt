@@ -8,4 +8,5 @@ pub mod Steps
 pub mod Weigh
 pub mod Overrides
 pub mod Ranges
+pub mod Dates
 pub mod Loops

@@ -1,4 +1,4 @@
--- Contexts: a minute, a day and a zone, and which context numbers hold there.
+-- Contexts: a minute, a day and a zone, which context numbers hold there, and a date.
 use Rattle.std.specs.Prelude.{ℕ, Bool, true, ◌&&◌, ◌||◌, not, cond, List, ltb, eqb}
 use Rattle.folds.specs.Below.{all_below, any_below}
 use Rattle.reader.specs.Tables.{contexts, record_count}
@@ -7,10 +7,15 @@ use Rattle.reader.specs.Rules.{range_of}
 use Rattle.weights.specs.declared.Context.{Context}
 use Rattle.weights.specs.Operators.{meets}
 
--- refusal 11: minute, day or zone is out of range
+-- refusal 11: minute, day or zone is out of range, or the date, which is 0 to 65535
 unfoldable pub out_of_range : Context → Bool
 out_of_range at =
-    not (ltb at.minute (range_of 0)) || (not (ltb at.day (range_of 1)) || not (ltb at.zone (range_of 2)))
+    not (ltb at.minute (range_of 0)) || (not (ltb at.day (range_of 1))
+    || (not (ltb at.zone (range_of 2)) || ltb 65535 at.date))
+
+-- the same minute, day and zone on another date
+abbrev pub on_date : Context → ℕ → Context
+on_date at date = record { minute = at.minute; day = at.day; zone = at.zone; date = date }
 
 -- the context's value of parameter p: minute, day and zone are parameters 0, 1 and 2
 unfoldable pub value_of : Context → ℕ → ℕ

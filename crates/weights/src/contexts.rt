@@ -1,4 +1,4 @@
-// Contexts: which context numbers hold at a minute, a day and a zone.
+// Contexts: whether one is in range, and which context numbers hold at a minute, a day and a zone.
 ghost use Rattle.std.specs.Prelude.{◌≡◌, false, ◌+◌, ◌*◌, ◌≤◌, ◌<◌, length};
 ghost use Rattle.reader.specs.Fields.{context_length};
 ghost use Rattle.reader.specs.Rules.{contexts_bad};
@@ -17,6 +17,7 @@ pub fn out_of_range(at: Context) -> bool
     (u32::from(RANGES[0]) <= at.minute)
         | (u32::from(RANGES[1]) <= at.day)
         | (u32::from(RANGES[2]) <= at.zone)
+        | (u32::from(u16::MAX) < at.date)
 }
 
 // By the parameter's byte: an enum would be made of it by a match with as many arms, and then be matched by these.

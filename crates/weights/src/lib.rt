@@ -20,12 +20,14 @@ pub use chosen::Chosen;
 use reader::{Base, Table};
 pub use rules::Rules;
 
-// A context: parameters 0, 1 and 2 are the minute, the day and the zone.
+// A context: parameters 0, 1 and 2 are the minute, the day and the zone. The date is no parameter of conditions: users'
+// days are held against it.
 #[derive(Clone, Copy)]
 pub struct Context {
     pub minute: u32,
     pub day: u32,
     pub zone: u32,
+    pub date: u32,
 }
 
 // What one base and context fix, with that context: the context numbers that hold, as a set, and each role's juniors,

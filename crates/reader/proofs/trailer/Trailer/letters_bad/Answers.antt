@@ -34,7 +34,7 @@ module _ (b : List ℕ) (long : 36 ≤ length b) where
 
   same : not (pointwise eqb letters (drop (length b - 4) b)) ≡ letters_bad b
   unfolding letters_bad any_below
-  same = rw (last, not_each, eqb_sym 76, eqb_sym 67, eqb_sym 65, eqb_sym 80)
+  same = rw (last, not_each, eqb_sym 76, eqb_sym 67, eqb_sym 65, eqb_sym 81)
 
 pub returns : goal.returns
 returns c = ap not c.ends_with.ensures.value ∙ same _ c.self.invariant ∙ ap letters_bad c.self.view_is
