@@ -10,12 +10,13 @@ use borrow.Author.Tests.{ltb-true, ltb-false, eqb-true, eqb-false, eq-eqb, ne_eq
 use lib.Dec.{ltb, eqb}
 use lib.ListN.{length, get_or}
 use Rattle.folds.specs.Below.{count_below}
-use Rattle.folds.proofs.Bools.{or_left, or_right, none_met, none_refused}
+use Rattle.folds.proofs.Bools.{or_left, or_right, or_neither, none_met, none_refused}
 use Rattle.folds.proofs.Tests.{any_at, any_each, any_same}
 use Rattle.folds.proofs.Numbers.{sum_same, sum_le, count_same}
 use Rattle.folds.specs.Sets.{in_set}
 use Rattle.folds.proofs.Sets.{in_set_lem}
-use Rattle.reader.specs.Tables.{clauses, role_count, permission_count, table_of, user_count}
+use Rattle.reader.specs.Fields.{first_day, last_day}
+use Rattle.reader.specs.Tables.{users, clauses, role_count, permission_count, table_of, user_count}
 use Rattle.reader.specs.Rules.{refusal_of}
 use Rattle.weights.specs.declared.Context.{Context}
 use Rattle.weights.specs.Contexts.{out_of_range}
@@ -23,8 +24,8 @@ use Rattle.weights.specs.Weights.{weight}
 use Rattle.weights.specs.Setting.{AreWeights}
 use Rattle.decision.specs.Groups.{entry_count, entry_user, entry_role, sum_of, acted_in, roles_of}
 use Rattle.decision.specs.Groups.{length_refused, unknown_at, some_unknown, stands_before, some_twice, some_ineligible}
-use Rattle.decision.specs.Groups.{some_weightless, members_refusal, group_refusal}
-use Rattle.decision.specs.Decision.{members_of, group_decision, headed, decision_by}
+use Rattle.decision.specs.Groups.{some_out_of_date, some_weightless, members_refusal, group_refusal}
+use Rattle.decision.specs.Decision.{out_of_date, members_of, group_decision, headed, decision_by}
 use Rattle.decision.specs.Conditions.{role_num, permission_holds}
 use Rattle.decision.specs.Granting.{Granted, GrantedBy}
 
@@ -93,30 +94,33 @@ one_chain false false true s left = refl
 one_chain false false false true left = refl
 one_chain false false false false left = refl
 
-module _ (U R : ℕ) (may : ℕ → ℕ → Bool) (weigh : ℕ → ℕ) (condition : ℕ → ℕ → ℕ → Bool) (g : List ℕ) where
+module _ (U R : ℕ) (may : ℕ → ℕ → Bool) (out : ℕ → Bool) (weigh : ℕ → ℕ) (condition : ℕ → ℕ → ℕ → Bool)
+    (g : List ℕ) where
   abbrev holds : Bool
   holds = condition (entry_count g) (sum_of weigh g) (roles_of g)
 
-  -- refusals 12 to 17 are the first that applies of one chain
-  pub refusal_chain : group_refusal U R may weigh condition g ≡
+  -- refusals 12 to 15, 24, 16 and 17 are the first that applies of one chain
+  pub refusal_chain : group_refusal U R may out weigh condition g ≡
       cond (length_refused g) 12
       (cond (some_unknown U R g) 13
       (cond (some_twice g) 14
       (cond (some_ineligible may g) 15
+      (cond (some_out_of_date out g) 24
       (cond (some_weightless weigh g) 16
-      (cond holds 0 17)))))
+      (cond holds 0 17))))))
   unfolding group_refusal members_refusal
   refusal_chain =
       one_chain (length_refused g) (some_unknown U R g) (some_twice g) (some_ineligible may g)
-      (cond (some_weightless weigh g) 16 (cond holds 0 17))
+      (cond (some_out_of_date out g) 24 (cond (some_weightless weigh g) 16 (cond holds 0 17)))
 
--- where 12 to 17 give 0, so do 12 to 15, no role is weightless and the condition holds
-none_left : (m : ℕ) (t c : Bool) → cond (not (eqb m 0)) m (cond t 16 (cond c 0 17)) ≡ 0 →
-    (m ≡ 0) × (t ≡ false) × (c ≡ true)
-none_left m t c h =
+-- where the chain gives 0, so do 12 to 15, no user is out of date, no role is weightless and the condition holds
+none_left : (m : ℕ) (o t c : Bool) → cond (not (eqb m 0)) m (cond o 24 (cond t 16 (cond c 0 17))) ≡ 0 →
+    (m ≡ 0) × (o ≡ false) × (t ≡ false) × (c ≡ true)
+none_left m o t c h =
     let (members, past15) = none_refused m _ h in
-    let (weights, past16) = none_met t 15 past15 in
-    (members, weights, holds c past16)
+    let (on, past24) = none_met o 23 past15 in
+    let (weights, past16) = none_met t 15 past24 in
+    (members, on, weights, holds c past16)
   where
     holds : (c : Bool) → cond {A = ℕ} c 0 17 ≡ 0 → c ≡ true
     holds true k = refl
@@ -146,11 +150,13 @@ whole_length g whole some few =
       le-ltb 12 (length g) (omega arith),
     )
 
-module _ (U R : ℕ) (may : ℕ → ℕ → Bool) (weigh : ℕ → ℕ) (condition : ℕ → ℕ → ℕ → Bool) (g : List ℕ) where
-  granted_of : group_refusal U R may weigh condition g ≡ 0 → Granted U R may weigh condition g
-  unfolding group_refusal length_refused some_twice stands_before some_ineligible some_weightless
+module _ (U R : ℕ) (may : ℕ → ℕ → Bool) (out : ℕ → Bool) (weigh : ℕ → ℕ) (condition : ℕ → ℕ → ℕ → Bool)
+    (g : List ℕ) where
+  granted_of : group_refusal U R may out weigh condition g ≡ 0 → Granted U R may out weigh condition g
+  unfolding group_refusal length_refused some_twice stands_before some_ineligible some_out_of_date some_weightless
   granted_of h =
-      let left = none_left (members_refusal U R may g) (some_weightless weigh g) (holds U R may weigh condition g) h in
+      let met = holds U R may out weigh condition g in
+      let left = none_left (members_refusal U R may g) (some_out_of_date out g) (some_weightless weigh g) met h in
       let w = members_of_lem U R may g left.0 in
       let s = short_enough g w.whole in
       let n : length g ≡ 0 → ⊥ = eqb-false _ _ (or_left _ _ w.whole) in
@@ -167,11 +173,12 @@ module _ (U R : ℕ) (may : ℕ → ℕ → Bool) (weigh : ℕ → ℕ) (conditi
             eqb-false _ _
             (any_at (λ i. eqb (entry_user g i) (entry_user g j)) j (any_at (stands_before g) _ w.once j k) i l);
         acting = λ i l. not-false _ (any_at (λ i. not (may (entry_user g i) (entry_role g i))) _ w.acting i l);
-        heavy = λ i l. pos_of_ne-zero (eqb-false _ _ (any_at (λ i. eqb (weigh (entry_role g i)) 0) _ left.1 i l));
-        holds = left.2;
+        days = any_at (λ i. out (entry_user g i)) _ left.1;
+        heavy = λ i l. pos_of_ne-zero (eqb-false _ _ (any_at (λ i. eqb (weigh (entry_role g i)) 0) _ left.2 i l));
+        holds = left.3;
       }
 
-  granted_members : Granted U R may weigh condition g → Members U R may g
+  granted_members : Granted U R may out weigh condition g → Members U R may g
   unfolding some_unknown some_twice stands_before some_ineligible
   granted_members d = record {
     whole = whole_length g d.whole d.some d.few;
@@ -181,27 +188,37 @@ module _ (U R : ℕ) (may : ℕ → ℕ → Bool) (weigh : ℕ → ℕ) (conditi
     acting = any_each (λ i. not (may (entry_user g i) (entry_role g i))) (entry_count g) (λ i l. rw (d.acting i l));
   }
 
+  none_out_of_date : ((i : ℕ) → i < entry_count g → out (entry_user g i) ≡ false) → some_out_of_date out g ≡ false
+  unfolding some_out_of_date
+  none_out_of_date on = any_each (λ i. out (entry_user g i)) (entry_count g) on
+
   none_weightless : ((i : ℕ) → i < entry_count g → 0 < weigh (entry_role g i)) → some_weightless weigh g ≡ false
   unfolding some_weightless
   none_weightless heavy =
       any_each (λ i. eqb (weigh (entry_role g i)) 0) (entry_count g)
       (λ i l. ne_eqb (weigh (entry_role g i)) 0 (λ q. let h = heavy i l in omega arith))
 
-  refused_not : Granted U R may weigh condition g → group_refusal U R may weigh condition g ≡ 0
+  refused_not : Granted U R may out weigh condition g → group_refusal U R may out weigh condition g ≡ 0
   unfolding group_refusal
-  refused_not d = rw (members_pass U R may g (granted_members d), none_weightless d.heavy, d.holds)
+  refused_not d =
+      rw (
+        members_pass U R may g (granted_members d),
+        none_out_of_date d.days,
+        none_weightless d.heavy,
+        d.holds,
+      )
 
   -- the law of granting, for whatever the chain is handed
-  pub granting : (group_refusal U R may weigh condition g ≡ 0) ↔ Granted U R may weigh condition g
+  pub granting : (group_refusal U R may out weigh condition g ≡ 0) ↔ Granted U R may out weigh condition g
   granting = (granted_of, refused_not)
 
--- whom the chain 12 to 17 grants, it grants where more users are eligible
-pub wider_granted : (U R : ℕ) (may can : ℕ → ℕ → Bool) (weigh : ℕ → ℕ) (condition : ℕ → ℕ → ℕ → Bool) (g : List ℕ) →
-    ((u r : ℕ) → may u r ≡ true → can u r ≡ true) →
-    group_refusal U R may weigh condition g ≡ 0 → group_refusal U R can weigh condition g ≡ 0
-wider_granted U R may can weigh condition g wider h =
-    let d = (granting U R may weigh condition g).0 h in
-    (granting U R can weigh condition g).1 (record {
+-- whom the chain grants, it grants where more users are eligible
+pub wider_granted : (U R : ℕ) (may can : ℕ → ℕ → Bool) (out : ℕ → Bool) (weigh : ℕ → ℕ)
+    (condition : ℕ → ℕ → ℕ → Bool) (g : List ℕ) → ((u r : ℕ) → may u r ≡ true → can u r ≡ true) →
+    group_refusal U R may out weigh condition g ≡ 0 → group_refusal U R can out weigh condition g ≡ 0
+wider_granted U R may can out weigh condition g wider h =
+    let d = (granting U R may out weigh condition g).0 h in
+    (granting U R can out weigh condition g).1 (record {
       whole = d.whole;
       some = d.some;
       few = d.few;
@@ -209,6 +226,7 @@ wider_granted U R may can weigh condition g wider h =
       role = d.role;
       different = d.different;
       acting = λ i l. wider (entry_user g i) (entry_role g i) (d.acting i l);
+      days = d.days;
       heavy = d.heavy;
       holds = d.holds;
     })
@@ -218,7 +236,7 @@ pub decision_granting : (rules b : List ℕ) (at : Context) (p : ℕ) (g : List 
     refusal_of b ≡ 0 → p < permission_count b → out_of_range at ≡ false →
     (decision_by rules b at p g ≡ 0) ↔ GrantedBy rules b at p g
 unfolding decision_by group_decision
-decision_granting rules b at p g ok there fit = rw (ok, lt-ltb _ _ there, fit) (granting _ _ _ _ _ g)
+decision_granting rules b at p g ok there fit = rw (ok, lt-ltb _ _ there, fit) (granting _ _ _ _ _ _ g)
 
 -- where the head and what is left give 0, the base is accepted, the permission there and the context in range
 pub head_passed : (b : List ℕ) (at : Context) (p left : ℕ) → headed b at p left ≡ 0 →
@@ -234,6 +252,17 @@ pub decision_head : (rules b : List ℕ) (at : Context) (p : ℕ) (g : List ℕ)
     (refusal_of b ≡ 0) × (p < permission_count b) × (out_of_range at ≡ false)
 unfolding decision_by
 decision_head rules b at p g h = let k = head_passed b at p (group_decision rules b at p g) h in (k.0, k.1, k.2)
+
+-- a user is in date where the date is from the first to the last day, both included
+pub in_date : (b : List ℕ) (at : Context) (u : ℕ) →
+    (out_of_date b at u ≡ false) ↔
+    ((first_day (table_of b users) u ≤ at.date) × (at.date ≤ last_day (table_of b users) u))
+in_date b at u = (
+  λ h.
+      let first = first_day (table_of b users) u in
+      (ltb-false _ _ (or_left _ _ h), ltb-false _ _ (or_right (ltb at.date first) _ h)),
+  λ w. or_neither (le-ltb _ _ w.0) (le-ltb _ _ w.1),
+)
 
 -- role_num of a group's set is the number of different roles acted in
 pub role_num_lem : (g : List ℕ) → role_num (roles_of g) ≡ count_below 8 (acted_in g)

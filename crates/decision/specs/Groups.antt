@@ -1,4 +1,4 @@
--- A group: entries of 2 bytes, user and role acted in; refusals 12 to 17 over what the chain is handed.
+-- A group: entries of 2 bytes, user and role acted in; refusals 12 to 17 and 24 over what the chain is handed.
 use Rattle.std.specs.Prelude.{ℕ, ◌+◌, ◌*◌, ◌/◌, ◌%◌, Bool, ◌||◌, not, cond, List, length, get_or, ltb, eqb}
 use Rattle.folds.specs.Below.{any_below, sum_below}
 use Rattle.folds.specs.Sets.{set_below}
@@ -59,6 +59,11 @@ unfoldable pub some_ineligible : (ℕ → ℕ → Bool) → List ℕ → Bool
 unfolding any_below
 some_ineligible eligible g = any_below (entry_count g) (λ i. not (eligible (entry_user g i) (entry_role g i)))
 
+-- refusal 24: the date is before the first or after the last day of an entry's user, by a test of the user
+unfoldable pub some_out_of_date : (ℕ → Bool) → List ℕ → Bool
+unfolding any_below
+some_out_of_date out g = any_below (entry_count g) (λ i. out (entry_user g i))
+
 -- refusal 16: an entry's role has weight 0
 unfoldable pub some_weightless : (ℕ → ℕ) → List ℕ → Bool
 unfolding any_below
@@ -73,10 +78,15 @@ members_refusal U R eligible g =
     (cond (some_twice g) 14
     (cond (some_ineligible eligible g) 15 0)))
 
--- the first of refusals 12 to 17 that applies, or 0: 12 to 15 as above, then 16 by the roles' weights and 17 by the
--- condition on number, sum and set
-unfoldable pub group_refusal : ℕ → ℕ → (ℕ → ℕ → Bool) → (ℕ → ℕ) → (ℕ → ℕ → ℕ → Bool) → List ℕ → ℕ
-group_refusal U R eligible weight condition g =
+-- the first of refusals 16 and 17 that applies, or 0: 16 by the roles' weights, 17 by the condition on number, sum and
+-- set
+abbrev pub weighed_refusal : (ℕ → ℕ) → (ℕ → ℕ → ℕ → Bool) → List ℕ → ℕ
+weighed_refusal weight condition g =
+    cond (some_weightless weight g) 16 (cond (condition (entry_count g) (sum_of weight g) (roles_of g)) 0 17)
+
+-- the first of refusals 12 to 15, 24, 16 and 17 that applies, or 0: 12 to 15 as above, then 24 by a test of the user, 16
+-- and 17 as above
+unfoldable pub group_refusal : ℕ → ℕ → (ℕ → ℕ → Bool) → (ℕ → Bool) → (ℕ → ℕ) → (ℕ → ℕ → ℕ → Bool) → List ℕ → ℕ
+group_refusal U R eligible out weight condition g =
     cond (not (eqb (members_refusal U R eligible g) 0)) (members_refusal U R eligible g)
-    (cond (some_weightless weight g) 16
-    (cond (condition (entry_count g) (sum_of weight g) (roles_of g)) 0 17))
+    (cond (some_out_of_date out g) 24 (weighed_refusal weight condition g))

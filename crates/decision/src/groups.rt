@@ -1,10 +1,12 @@
-// A group's entries and its attributes: refusals 12 to 16.
-ghost use Rattle.std.specs.Prelude.{◌≡◌, ℕ, ◌+◌, ◌*◌, ◌≤◌, ◌<◌, length, get_or};
+// A group's entries and its attributes: refusals 12 to 16, and 24.
+ghost use Rattle.std.specs.Prelude.{◌≡◌, ℕ, ◌+◌, ◌*◌, ◌/◌, ◌≤◌, ◌<◌, length, get_or};
+ghost use Rattle.reader.specs.Days.{out_of_days};
 ghost use Rattle.weights.specs.Acting.{may_act};
 ghost use Rattle.decision.specs.Groups.{entry_count, entry_user, entry_role, sum_of, roles_of, length_refused};
 ghost use Rattle.decision.specs.Groups.{unknown, some_unknown, stands_before, some_twice, some_ineligible};
-ghost use Rattle.decision.specs.Groups.{some_weightless};
+ghost use Rattle.decision.specs.Groups.{some_out_of_date, some_weightless};
 
+use reader::users::Days;
 use weights::acting::Acting;
 
 // An entry of a group: a user, and the role acted in.
@@ -76,6 +78,14 @@ pub fn some_ineligible(g: &[u8], acting: &Acting<'_>) -> bool
 }
 
 // What follows asks of any bytes just what it needs; `Members` says it once, for callers.
+
+// Inner: refusal 24, for users that are there.
+pub fn some_out_of_date(g: &[u8], users: &[u8], date: u32) -> bool
+    requires { (i : ℕ) → i < entry_count g.now → entry_user g.now i < length users.now / 8 }
+    ensures { result ≡ some_out_of_date (out_of_days users.now date) g.now }
+{
+    (0..g.len() / 2).any(|i| Days::of(users, Entry::of(g, i).user as usize).leave_out(date))
+}
 
 // Inner: refusal 16, for roles below 8.
 pub fn some_weightless(g: &[u8], w: [u8; 8]) -> bool

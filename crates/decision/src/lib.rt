@@ -1,12 +1,12 @@
-// The decision: whether a group is granted a permission, by the first refusal of 1 to 17, and of 22 where a list is
-// lent, that applies.
+// The decision: whether a group is granted a permission, by the first refusal of 1 to 15, 24, 16 and 17, and of 22 where
+// a list is lent, that applies.
 #![tactic(auto)]
 
 ghost use Rattle.std.specs.Prelude.{◌≡◌, ◌<◌};
 ghost use Rattle.reader.specs.Tables.{permission_count};
 ghost use Rattle.reader.specs.Refusals.{number_of};
 ghost use Rattle.weights.specs.Setting.{rules_of, FixedBy};
-ghost use Rattle.decision.specs.Decision.{group_decision, asking, decision_of, decision_lent};
+ghost use Rattle.decision.specs.Decision.{weighed_of, group_decision, asking, decision_of, decision_lent};
 
 use reader::{Base, Refusal, Table};
 use weights::acting::Acting;
@@ -19,8 +19,8 @@ pub mod members;
 use conditions::Attributes;
 use members::Members;
 
-// Entry point: whether the group is granted; else the first refusal of 1 to 17 that applies. `decide_by` differs in
-// which refusals come first; what follows is one function.
+// Entry point: whether the group is granted; else the first refusal of 1 to 15, 24, 16 and 17 that applies. `decide_by`
+// differs in which refusals come first; what follows is one function.
 pub fn decide(base: &[u8], permission: u32, at: Context, group: &[u8]) -> Result<(), Refusal>
     ensures { number_of result ≡ decision_of base.now at permission group.now }
 {
@@ -30,7 +30,8 @@ pub fn decide(base: &[u8], permission: u32, at: Context, group: &[u8]) -> Result
     decide_checked(&base, permission as u8, s, group)
 }
 
-// Entry point: the same by a resolution list; the first refusal of 1 to 9, 22 of the list, and 10 to 17 that applies.
+// Entry point: the same by a resolution list; the first refusal of 1 to 9, 22 of the list, 10 to 15, 24, 16 and 17 that
+// applies.
 pub fn decide_by(
     base: &[u8],
     permission: u32,
@@ -59,7 +60,8 @@ fn asking_refusal(base: &Base<'_>, permission: u32, at: Context) -> Result<(), R
     Ok(())
 }
 
-// Inner: refusals 12 to 17 for an accepted base, a permission that is there and a setting of that base, by its rules.
+// Inner: refusals 12 to 15, 24, 16 and 17 for an accepted base, a permission that is there and a setting of that base, by
+// its rules.
 pub fn decide_checked(
     base: &Base<'_>,
     permission: u8,
@@ -70,6 +72,22 @@ pub fn decide_checked(
     ensures { number_of result ≡ group_decision (rules_of s) base.now s.at permission group.now }
 {
     let members = Members::of(&Acting::by(base, s.juniors), group)?;
+    if groups::some_out_of_date(members.bytes(), base.part(Table::Users), s.at.date) {
+        return Err(Refusal::OutOfDate);
+    }
+    weighed_refusal(base, permission, s, &members)
+}
+
+// Refusals 16 and 17 of a group that passed 12 to 15.
+fn weighed_refusal(
+    base: &Base<'_>,
+    permission: u8,
+    s: Fixed,
+    members: &Members<'_>,
+) -> Result<(), Refusal>
+    requires { (permission < permission_count base.now) × FixedBy base.now s }
+    ensures { number_of result ≡ weighed_of (rules_of s) base.now s.at permission members.now }
+{
     let group = members.bytes();
     let k = base.part(Table::Clauses);
     let w = weights::choose(base, s).role_weights(s.juniors, permission);

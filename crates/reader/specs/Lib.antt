@@ -4,5 +4,6 @@ pub mod Places
 pub mod Fields
 pub mod Codes
 pub mod Rules
+pub mod Days
 pub mod Refusals
 pub mod Answers

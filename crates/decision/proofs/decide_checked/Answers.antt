@@ -1,116 +1,67 @@
--- `decide_checked` meets its contract: 12 to 15 by `members_refusal`, then 16 and 17 by the weights.
-use Rattle.std.proofs.Common.{ℕ, Bool, true, false, List, get_or, ◌≡◌}
-use mathlib.Core.Bool.{cond}
+-- `decide_checked` meets its contract: 12 to 15 by `members_refusal`, then 24 by the members' days, then what is left.
+use Rattle.std.proofs.Common.{ℕ, ◌/◌, ◌<◌, Bool, true, false, List, length, ◌≡◌}
 use mathlib.Core.Path.{ap, sym, ◌∙◌}
-use native.Mathlib.Nat.{lt_of_lt_of_le}
 use Rattle.folds.proofs.Bools.{refused, unrefused}
-use Rattle.reader.specs.Tables.{clauses, table_of}
-use Rattle.reader.proofs.Frame.{permissions_le}
-use Rattle.reader.proofs.Accepted.{accepted, clause_fine}
+use Rattle.reader.specs.Tables.{users, table_of}
+use Rattle.reader.specs.Days.{out_of_days}
 use Rattle.reader.proofs.Results.{refusal_pos, handed_on}
 use Rattle.weights.specs.declared.Context.{Context}
-use Rattle.weights.specs.Weights.{weight}
-use Rattle.weights.specs.Setting.{AreWeights, rules_of}
-use Rattle.weights.proofs.Weigh.{weights_le}
-use Rattle.decision.specs.Conditions.{permission_holds}
-use Rattle.decision.specs.Groups.{entry_count, sum_of, roles_of, some_weightless, group_refusal}
-use Rattle.decision.specs.Decision.{members_of, group_decision}
-use Rattle.decision.specs.Members.{Seated}
-use Rattle.decision.proofs.Granting.{members_same, weightless_same, sum_weights, condition_same}
+use Rattle.weights.specs.Setting.{rules_of}
+use Rattle.decision.specs.Groups.{entry_count, entry_user, some_out_of_date, group_refusal}
+use Rattle.decision.specs.Decision.{out_of_date, members_of, weighed_of, group_decision}
+use Rattle.decision.proofs.Granting.{members_same, members_of_lem, user_known}
 use Rattle.decision.proofs.decide_checked.Goals as goal
 
 -- none of 12 to 15 applies to the group, by its base and its bytes
 none_of : {a b m g : List ℕ} → a ≡ b → m ≡ g → 0 ≡ members_of a g → members_of b m ≡ 0
 none_of {b = b} {g = g} same is passed = ap (members_of b) is ∙ sym (members_same g same passed)
 
--- its bytes are the members'
-seated_by : {m g : List ℕ} → m ≡ g → Seated g → Seated m
-seated_by e s = rw e s
+-- its users are there
+all_there : (b g : List ℕ) {us : List ℕ} → members_of b g ≡ 0 → us ≡ table_of b users →
+    (i : ℕ) → i < entry_count g → entry_user g i < length us / 8
+all_there b g none table = rw table (user_known _ _ g (members_of_lem _ _ _ g none).known)
 
 module _ (rules b : List ℕ) (at : Context) (p : ℕ) (g : List ℕ) where
-  abbrev weigh : ℕ → ℕ
-  weigh r = weight rules b at r p
-
-  abbrev weightless : Bool
-  weightless = some_weightless weigh g
-
-  abbrev holds : Bool
-  holds = permission_holds (table_of b clauses) p (entry_count g) (sum_of weigh g) (roles_of g)
-
   by_members : {n : ℕ} → n ≡ members_of b g → (n ≡ 0 → ⊥) → n ≡ group_decision rules b at p g
   unfolding group_decision group_refusal
   by_members is some = is ∙ refused _ (λ h. some (is ∙ h))
 
-  module _ (none : members_of b g ≡ 0) where
-    rest : group_decision rules b at p g ≡ cond weightless 16 (cond holds 0 17)
+  module _ (none : members_of b g ≡ 0) {us : List ℕ} (table : us ≡ table_of b users) where
+    out_is : {t : Bool} → t ≡ some_out_of_date (out_of_days us at.date) g → some_out_of_date (out_of_date b at) g ≡ t
+    out_is days = sym (days ∙ ap (λ v. some_out_of_date (out_of_days v at.date) g) table)
+
+    by_24 : true ≡ some_out_of_date (out_of_days us at.date) g → 24 ≡ group_decision rules b at p g
     unfolding group_decision group_refusal
-    rest = unrefused none
+    by_24 days = sym (unrefused none ∙ rw (out_is days))
 
-    by_16 : weightless ≡ true → 16 ≡ group_decision rules b at p g
-    by_16 e = sym (rest ∙ rw e)
-
-    by_0 : weightless ≡ false → holds ≡ true → 0 ≡ group_decision rules b at p g
-    by_0 e h = sym (rest ∙ rw (e, h))
-
-    by_17 : weightless ≡ false → holds ≡ false → 17 ≡ group_decision rules b at p g
-    by_17 e h = sym (rest ∙ rw (e, h))
-
-  module _ (seated : Seated g) {w : List ℕ} (are : AreWeights rules b at p w) where
-    weightless_is : {t : Bool} → t ≡ some_weightless (λ r. get_or w r 0) g → weightless ≡ t
-    weightless_is is = sym (is ∙ weightless_same _ _ _ _ _ g are seated.low)
-
-    holds_is : {t : Bool} {c : List ℕ} {n sum set : ℕ} → t ≡ permission_holds c p n sum set →
-        c ≡ table_of b clauses → n ≡ entry_count g → sum ≡ sum_of (λ r. get_or w r 0) g → set ≡ roles_of g → holds ≡ t
-    holds_is is table count total roles =
-        let weighed = sum_weights _ _ _ _ _ g are seated.low in
-        sym (is ∙ condition_same rules b at p g _ _ _ _ table count (total ∙ weighed) roles)
+    left : false ≡ some_out_of_date (out_of_days us at.date) g → weighed_of rules b at p g ≡ group_decision rules b at p g
+    unfolding group_decision group_refusal
+    left days = sym (unrefused none ∙ rw (out_is days))
 
 pub returns-in_err-members : goal.returns-in_err-members
 returns-in_err-members c =
     handed_on _ _ c.from_residual.ensures.1
     ∙ by_members _ _ _ _ _ (members_same c.args.group.now c.by.ensures c.in_err-members.ensures.number) (refusal_pos _)
 
-pub role_weights-w-requires : goal.role_weights-w-requires
-role_weights-w-requires c = lt_of_lt_of_le c.requires.0 (permissions_le _ (accepted _ c.part-k.ensures.accepted).frame)
+pub some_out_of_date-requires : goal.some_out_of_date-requires
+some_out_of_date-requires c =
+    let same = c.bytes.ensures.bytes ∙ c.in_ok-members.ensures.same in
+    all_there _ _ (none_of c.by.ensures same c.in_ok-members.ensures.number) c.part.ensures.table
 
-pub returns-then-some_weightless : goal.returns-then-some_weightless
-returns-then-some_weightless c =
-    let same = c.bytes-group.ensures.bytes ∙ c.in_ok-members.ensures.same in
+pub returns-then-some_out_of_date : goal.returns-then-some_out_of_date
+returns-then-some_out_of_date c =
+    let same = c.bytes.ensures.bytes ∙ c.in_ok-members.ensures.same in
     let none = none_of c.by.ensures same c.in_ok-members.ensures.number in
-    let seated = seated_by c.bytes-group.ensures.bytes c.bytes-group.ensures.seated in
-    let are = c.role_weights-w.ensures _ _ _ c.part-k.ensures.accepted c.choose.ensures c.requires.1.juniors in
-    by_16 _ _ _ _ _ none (weightless_is _ _ _ _ _ seated are c.if-some_weightless.ensures)
-    ∙ ap (group_decision (rules_of c.args.s) c.args.base.now c.args.s.at c.args.permission) same
-
-pub sum_of-requires : goal.sum_of-requires
-sum_of-requires c =
-    let ok = c.part-k.ensures.accepted in
-    let are = c.role_weights-w.ensures _ _ _ ok c.choose.ensures c.requires.1.juniors in
-    let seated = seated_by c.bytes-group.ensures.bytes c.bytes-group.ensures.seated in
-    (seated.few, seated.low, weights_le _ ok _ _ _ _ are)
-
-pub permission_holds-requires : goal.permission_holds-requires
-permission_holds-requires c =
-    rw c.part-k.ensures.table (λ i l. (clause_fine _ _ _ i (accepted _ c.part-k.ensures.accepted).clauses l).at_most)
-
-pub returns-then-permission_holds : goal.returns-then-permission_holds
-returns-then-permission_holds c =
-    let same = c.bytes-group.ensures.bytes ∙ c.in_ok-members.ensures.same in
-    let none = none_of c.by.ensures same c.in_ok-members.ensures.number in
-    let seated = seated_by c.bytes-group.ensures.bytes c.bytes-group.ensures.seated in
-    let are = c.role_weights-w.ensures _ _ _ c.part-k.ensures.accepted c.choose.ensures c.requires.1.juniors in
-    by_0 _ _ _ _ _ none (weightless_is _ _ _ _ _ seated are c.if-some_weightless.ensures)
-    (holds_is _ _ _ _ _ seated are c.if-permission_holds.ensures c.part-k.ensures.table c.entry_count.ensures
-    c.sum_of.ensures.0 c.roles_of.ensures)
+    by_24 (rules_of c.args.s) c.args.base.now c.args.s.at c.args.permission _ none c.part.ensures.table
+    c.if-some_out_of_date.ensures
     ∙ ap (group_decision (rules_of c.args.s) c.args.base.now c.args.s.at c.args.permission) same
 
 pub returns : goal.returns
 returns c =
-    let same = c.bytes-group.ensures.bytes ∙ c.in_ok-members.ensures.same in
+    let same = c.bytes.ensures.bytes ∙ c.in_ok-members.ensures.same in
     let none = none_of c.by.ensures same c.in_ok-members.ensures.number in
-    let seated = seated_by c.bytes-group.ensures.bytes c.bytes-group.ensures.seated in
-    let are = c.role_weights-w.ensures _ _ _ c.part-k.ensures.accepted c.choose.ensures c.requires.1.juniors in
-    by_17 _ _ _ _ _ none (weightless_is _ _ _ _ _ seated are c.if-some_weightless.ensures)
-    (holds_is _ _ _ _ _ seated are c.if-permission_holds.ensures c.part-k.ensures.table c.entry_count.ensures
-    c.sum_of.ensures.0 c.roles_of.ensures)
+    c.weighed_refusal.ensures
+    ∙ ap (weighed_of (rules_of c.args.s) c.args.base.now c.args.s.at c.args.permission) (sym c.bytes.ensures.bytes)
+    ∙ left (rules_of c.args.s) c.args.base.now c.args.s.at c.args.permission _ none c.part.ensures.table
+    c.if-some_out_of_date.ensures
     ∙ ap (group_decision (rules_of c.args.s) c.args.base.now c.args.s.at c.args.permission) same
