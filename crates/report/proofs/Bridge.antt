@@ -1,6 +1,6 @@
 -- Granted groups of bytes and lists of entries by falling user stand for each other: same number, sum and set.
 use Prim.Native.Nat.{ℕ, zero, suc, ◌+◌, ◌*◌, ◌^◌, ◌<◌, ◌≤◌}
-use mathlib.Core.Bool.{Bool, true, ◌&&◌}
+use mathlib.Core.Bool.{Bool, true, false, not, ◌&&◌}
 use mathlib.Core.Path.{◌≡◌, refl, sym, ap, ◌∙◌}
 use mathlib.Core.List.{List, [], ◌∷◌, ◌++◌}
 use native.Mathlib.Omega.{arith}
@@ -11,7 +11,7 @@ use lib.Seq.{get_or-append-add, get_or-append_seam}
 use lib.Dec.{ltb, eqb, lit<}
 use lib.Pow.{pow-lt}
 use lib.Bits.{bit_or, or_comm, or_lt}
-use borrow.Author.Tests.{ltb-true, lt-ltb}
+use borrow.Author.Tests.{ltb-true, lt-ltb, not-true}
 use Rattle.folds.specs.Below.{any_below, sum_below}
 use Rattle.folds.specs.Sets.{in_set, set_below}
 use Rattle.folds.proofs.Bools.{and_left, and_right, and_both, eqb_sym}
@@ -22,9 +22,9 @@ use Rattle.decision.specs.Granting.{Granted}
 use Rattle.multisets.specs.Rising.{Entry, May, entries_sum, entries_roles}
 use Rattle.multisets.specs.Standing.{bytes_back}
 
--- the tables stand for who may act in which role, and for the roles' weights
-pub record Tables (U R : ℕ) (may : ℕ → ℕ → Bool) (weigh : ℕ → ℕ) (sets w : List ℕ) : Type 0 where
-  pub acting : (u r : ℕ) → r < 8 → in_set (get_or sets u 0) r ≡ (ltb u U && (ltb r R && may u r))
+-- the tables stand for who may act in which role and isn't out of date, and for the roles' weights
+pub record Tables (U R : ℕ) (may : ℕ → ℕ → Bool) (out : ℕ → Bool) (weigh : ℕ → ℕ) (sets w : List ℕ) : Type 0 where
+  pub acting : (u r : ℕ) → r < 8 → in_set (get_or sets u 0) r ≡ (ltb u U && (ltb r R && (may u r && not (out u))))
   pub weight : (r : ℕ) → r < R → get_or w r 0 ≡ weigh r
 
 -- the entries the other way round: users fall along the list and lie below end, and each entry may stand there
@@ -207,35 +207,49 @@ module _ (sets w : List ℕ) where
         absent = λ u q. z.absent u (q.0, s.absent u q.1);
       }
 
-module _ {U R : ℕ} {may : ℕ → ℕ → Bool} {weigh : ℕ → ℕ} {sets w : List ℕ} (condition : ℕ → ℕ → ℕ → Bool)
-    (tables : Tables U R may weigh sets w) where
+-- user u may stand in a group in role r
+record MayStand (U R : ℕ) (may : ℕ → ℕ → Bool) (out : ℕ → Bool) (weigh : ℕ → ℕ) (u r : ℕ) : Type 0 where
+  user : u < U
+  role : r < R
+  acting : may u r ≡ true
+  days : out u ≡ false
+  heavy : 0 < weigh r
+
+module _ {U R : ℕ} {may : ℕ → ℕ → Bool} {out : ℕ → Bool} {weigh : ℕ → ℕ} {sets w : List ℕ}
+    (condition : ℕ → ℕ → ℕ → Bool) (tables : Tables U R may out weigh sets w) where
   -- what the tables say of an entry that may stand in a group
-  entry_may : (e : Entry) → May sets w e →
-      (e.user < U) × (e.role < R) × (may e.user e.role ≡ true) × (0 < weigh e.role)
+  entry_may : (e : Entry) → May sets w e → MayStand U R may out weigh e.user e.role
   entry_may e m =
-      let a : (ltb e.user U && (ltb e.role R && may e.user e.role)) ≡ true =
-      sym (tables.acting e.user e.role m.role) ∙ m.acting in
-      let b = and_right (ltb e.user U) (ltb e.role R && may e.user e.role) a in
-      let r : e.role < R = ltb-true _ _ (and_left (ltb e.role R) (may e.user e.role) b) in (
-        ltb-true _ _ (and_left (ltb e.user U) (ltb e.role R && may e.user e.role) a),
-        r,
-        and_right (ltb e.role R) (may e.user e.role) b,
-        omega (arith, m.heavy, tables.weight e.role r),
-      )
+      let u = e.user in
+      let r = e.role in
+      let all : (ltb u U && (ltb r R && (may u r && not (out u)))) ≡ true =
+      sym (tables.acting u r m.role) ∙ m.acting in
+      let past_user = and_right (ltb u U) _ all in
+      let past_role = and_right (ltb r R) _ past_user in
+      let low : r < R = ltb-true _ _ (and_left (ltb r R) _ past_user) in
+      record {
+        user = ltb-true _ _ (and_left (ltb u U) _ all);
+        role = low;
+        acting = and_left (may u r) _ past_role;
+        days = not-true _ (and_right (may u r) _ past_role);
+        heavy = omega (arith, m.heavy, tables.weight r low);
+      }
 
   -- a falling list of entries that meets the condition is a granted group, by rising user
   pub falls_granted : (end : ℕ) (g : List Entry) → 1 ≤ length g → length g ≤ 6 → Falls sets w end g
-      → condition (length g) (entries_sum w g) (entries_roles g) ≡ true → Granted U R may weigh condition (bytes_back g)
+      → condition (length g) (entries_sum w g) (entries_roles g) ≡ true
+      → Granted U R may out weigh condition (bytes_back g)
   unfolding sum_of
   falls_granted end g some few f h = record {
     whole = omega (arith, length_bytes g, n);
     some = omega (arith, n);
     few = omega (arith, n);
-    user = λ i l. (at i l).0;
-    role = λ i l. (at i l).1;
+    user = λ i l. (at i l).user;
+    role = λ i l. (at i l).role;
     different = λ i j k l e. omega (arith, falls_up sets w bytes (entry_count bytes) end falling i j k l);
-    acting = λ i l. (at i l).2;
-    heavy = λ i l. (at i l).3;
+    acting = λ i l. (at i l).acting;
+    days = λ i l. (at i l).days;
+    heavy = λ i l. (at i l).heavy;
     holds = rw (← sum, ← roles, first, n) h;
   }
     where
@@ -254,19 +268,17 @@ module _ {U R : ℕ} {may : ℕ → ℕ → Bool} {weigh : ℕ → ℕ} {sets w 
       allowed : (i : ℕ) → i < entry_count bytes → May sets w (entry_at bytes i)
       allowed i l = (falls_at sets w bytes (entry_count bytes) end falling i l).1
 
-      at : (i : ℕ) → i < entry_count bytes
-          → (entry_user bytes i < U) × (entry_role bytes i < R) × (may (entry_user bytes i) (entry_role bytes i) ≡ true)
-          × (0 < weigh (entry_role bytes i))
+      at : (i : ℕ) → i < entry_count bytes → MayStand U R may out weigh (entry_user bytes i) (entry_role bytes i)
       at i l = entry_may (entry_at bytes i) (allowed i l)
 
       sum : entries_sum w (first_of bytes (entry_count bytes)) ≡ sum_of weigh bytes
-      sum = sum_first w weigh bytes (entry_count bytes) (λ i l. tables.weight (entry_role bytes i) (at i l).1)
+      sum = sum_first w weigh bytes (entry_count bytes) (λ i l. tables.weight (entry_role bytes i) (at i l).role)
 
       roles : entries_roles (first_of bytes (entry_count bytes)) ≡ roles_of bytes
       roles = roles_first bytes (λ i l. (allowed i l).role)
 
   -- every granted list has a falling list of entries with the same number, sum and set
-  pub granted_falls : R ≤ 8 → (t : List ℕ) → Granted U R may weigh condition t
+  pub granted_falls : R ≤ 8 → (t : List ℕ) → Granted U R may out weigh condition t
       → (g : List Entry) × (length g ≡ entry_count t) × Falls sets w U g × (entries_sum w g ≡ sum_of weigh t)
       × (entries_roles g ≡ roles_of t)
   unfolding sum_of
@@ -286,6 +298,7 @@ module _ {U R : ℕ} {may : ℕ → ℕ → Bool} {weigh : ℕ → ℕ} {sets w 
             role = r;
             acting =
                 tables.acting (entry_user t i) (entry_role t i) r
-                ∙ and_both (lt-ltb _ _ (d.user i l)) (and_both (lt-ltb _ _ (d.role i l)) (d.acting i l));
+                ∙ and_both (lt-ltb _ _ (d.user i l))
+                (and_both (lt-ltb _ _ (d.role i l)) (and_both (d.acting i l) (ap not (d.days i l))));
             heavy = omega (arith, d.heavy i l, tables.weight (entry_role t i) (d.role i l));
           }

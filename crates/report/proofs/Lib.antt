@@ -2,6 +2,7 @@ pub mod Answers
 pub mod Bridge
 pub mod Demand
 pub mod Filling
+pub mod InDate
 pub mod Least
 pub mod Part
 pub mod Shown

@@ -1,6 +1,6 @@
 -- A permission's 13 bytes: what the search hands back, by the base.
 use Prim.Native.Nat.{ℕ, ◌^◌, ◌<◌, ◌≤◌}
-use mathlib.Core.Bool.{Bool, true, false, ◌&&◌}
+use mathlib.Core.Bool.{Bool, true, false, not, ◌&&◌, cond}
 use mathlib.Core.Path.{◌≡◌, refl, sym, ap, ◌∙◌}
 use mathlib.Core.Logic.{◌↔◌, ⊎_elim}
 use mathlib.Core.List.{List, ◌∷◌}
@@ -10,8 +10,8 @@ use borrow.Author.Tests.{eqb-true, eq-eqb, ltb-true, ltb-false, lt-ltb, le-ltb}
 use lib.Dec.{ltb, eqb}
 use lib.Pow.{pow_pos}
 use lib.ListN.{length, get_or, replicate, get_or-eq_default}
-use Rattle.folds.specs.Sets.{in_set}
-use Rattle.folds.proofs.Bools.{met_or_not}
+use Rattle.folds.specs.Sets.{in_set, set_below}
+use Rattle.folds.proofs.Bools.{met_or_not, and_left}
 use Rattle.folds.proofs.Sets.{in_set_lem, in_none}
 use Rattle.reader.specs.Tables.{clauses, role_count, permission_count, table_of, user_count}
 use Rattle.reader.specs.Rules.{refusal_of}
@@ -24,7 +24,7 @@ use Rattle.weights.specs.Acting.{may_act}
 use Rattle.weights.specs.Setting.{AreWeights}
 use Rattle.weights.proofs.MayAct.{acting_known}
 use Rattle.weights.proofs.Weigh.{weights_le, weight_high}
-use Rattle.decision.specs.Decision.{eligible, decision_by}
+use Rattle.decision.specs.Decision.{eligible, out_of_date, decision_by}
 use Rattle.decision.specs.Conditions.{permission_holds}
 use Rattle.decision.specs.Granting.{Granted}
 use Rattle.decision.proofs.Granting.{granted_by}
@@ -36,8 +36,9 @@ use Rattle.seek.specs.Answer.{AnsweredWith}
 use Rattle.masks.specs.Sets.{RoleCounts}
 use Rattle.masks.proofs.Made.{checked}
 use Rattle.fewest.specs.Search.{holds_with, Seeking}
-use Rattle.report.specs.Parts.{ActingSets, PartFor}
+use Rattle.report.specs.Parts.{SetsInDate, PartFor}
 use Rattle.report.proofs.Bridge.{Tables}
+use Rattle.report.proofs.InDate.{in_set_in_date}
 use Rattle.report.proofs.Least.{of_decision}
 use Rattle.report.proofs.Shown.{nobody, Shown, shown_none, shown_found}
 
@@ -50,19 +51,30 @@ with_both false b true h = sym (h refl).0
 with_both false b false h = refl
 
 module _ (rules b : List ℕ) (at : Context) (p : ℕ) (ok : refusal_of b ≡ 0) where
-  -- the sets of a base say who may act in which role
-  acting_is : (sets : List ℕ) → ActingSets b sets → (u r : ℕ) → r < 8 →
-      in_set (get_or sets u 0) r ≡ (ltb u (user_count b) && (ltb r (role_count b) && may_act b u r))
+  -- user u may act in role r and is in date
+  abbrev stands : ℕ → ℕ → Bool
+  stands u r = may_act b u r && not (out_of_date b at u)
+
+  stands_known : (u r : ℕ) → stands u r ≡ true → (ltb u (user_count b) ≡ true) × (ltb r (role_count b) ≡ true)
+  stands_known u r h = let k = acting_known b u r (and_left _ _ h) in (lt-ltb _ _ k.0, lt-ltb _ _ k.1)
+
+  -- the sets of a base say who may act in which role and is in date
+  acting_is : (sets : List ℕ) → SetsInDate b at sets → (u r : ℕ) → r < 8 →
+      in_set (get_or sets u 0) r ≡ (ltb u (user_count b) && (ltb r (role_count b) && stands u r))
   acting_is sets are u r low =
       ⊎_elim (λ t. there (ltb-true _ _ t)) (λ t. past (ltb-false _ _ t)) (met_or_not (ltb u 24))
     where
-      there : u < 24 → in_set (get_or sets u 0) r ≡ (ltb u (user_count b) && (ltb r (role_count b) && may_act b u r))
-      there l =
-          ap (λ (s : ℕ). in_set s r) (are.user u l) ∙ in_set_lem (may_act b u) 8 r low
-          ∙ with_both (ltb u (user_count b)) (ltb r (role_count b)) (may_act b u r)
-          (λ h. let k = acting_known b u r h in (lt-ltb _ _ k.0, lt-ltb _ _ k.1))
+      in_date : in_set (cond (out_of_date b at u) 0 (set_below 8 (may_act b u))) r ≡ stands u r
+      in_date =
+          in_set_in_date (out_of_date b at u) (set_below 8 (may_act b u)) r
+          ∙ ap (λ (t : Bool). t && not (out_of_date b at u)) (in_set_lem (may_act b u) 8 r low)
 
-      past : 24 ≤ u → in_set (get_or sets u 0) r ≡ (ltb u (user_count b) && (ltb r (role_count b) && may_act b u r))
+      there : u < 24 → in_set (get_or sets u 0) r ≡ (ltb u (user_count b) && (ltb r (role_count b) && stands u r))
+      there l =
+          ap (λ (s : ℕ). in_set s r) (are.user u l) ∙ in_date
+          ∙ with_both (ltb u (user_count b)) (ltb r (role_count b)) (stands u r) (stands_known u r)
+
+      past : 24 ≤ u → in_set (get_or sets u 0) r ≡ (ltb u (user_count b) && (ltb r (role_count b) && stands u r))
       past l =
           let few = users_le b (accepted_frame b ok) in
           let size = are.size in
@@ -70,8 +82,8 @@ module _ (rules b : List ℕ) (at : Context) (p : ℕ) (ok : refusal_of b ≡ 0)
           let out : user_count b ≤ u = omega arith in
           rw (get_or-eq_default sets 0 long, in_none r, le-ltb _ _ out)
 
-  tables_of : (sets w : List ℕ) → ActingSets b sets → AreWeights rules b at p w →
-      Tables (user_count b) (role_count b) (eligible b at p) (λ r. weight rules b at r p) sets w
+  tables_of : (sets w : List ℕ) → SetsInDate b at sets → AreWeights rules b at p w →
+      Tables (user_count b) (role_count b) (eligible b at p) (out_of_date b at) (λ r. weight rules b at r p) sets w
   tables_of sets w acting are = record {
     acting = acting_is sets acting;
     weight = λ r l. are.role r (lt_of_lt_of_le l (roles_range b (accepted_frame b ok)).1);
@@ -98,11 +110,11 @@ module _ (rules b : List ℕ) (at : Context) (p : ℕ) (ok : refusal_of b ≡ 0)
 
   -- what the search finds is the permission's part
   module _ (there : p < permission_count b) (in_range : out_of_range at ≡ false) {sets w : List ℕ}
-      (acting : ActingSets b sets) (are : AreWeights rules b at p w) where
+      (acting : SetsInDate b at sets) (are : AreWeights rules b at p w) where
     abbrev granted : List ℕ → Bool
     granted g = eqb (decision_by rules b at p g) 0
 
-    is : (t : List ℕ) → (granted t ≡ true) ↔ Granted (user_count b) (role_count b) (eligible b at p)
+    is : (t : List ℕ) → (granted t ≡ true) ↔ Granted (user_count b) (role_count b) (eligible b at p) (out_of_date b at)
         (λ r. weight rules b at r p) (permission_holds (table_of b clauses) p) t
     is t = (
       λ h. ((granted_by rules b at p t).0 (eqb-true _ _ h)).3,

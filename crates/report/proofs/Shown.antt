@@ -40,10 +40,10 @@ pub record Shown (granted : List ℕ → Bool) (part : List ℕ) : Type 0 where
   pub rising : (i j : ℕ) → i < j → j < smallest granted → entry_user group i < entry_user group j
   pub bytes : part ≡ part_bytes (smallest granted) group
 
-module _ {U R : ℕ} {may : ℕ → ℕ → Bool} {weigh : ℕ → ℕ} {sets w : List ℕ} (k : List ℕ) (p : ℕ)
-    (tables : Tables U R may weigh sets w)
+module _ {U R : ℕ} {may : ℕ → ℕ → Bool} {out : ℕ → Bool} {weigh : ℕ → ℕ} {sets w : List ℕ} (k : List ℕ) (p : ℕ)
+    (tables : Tables U R may out weigh sets w)
     (roles : R ≤ 8) (granted : List ℕ → Bool) (of : OfBytes granted)
-    (is : (t : List ℕ) → (granted t ≡ true) ↔ Granted U R may weigh (permission_holds k p) t) where
+    (is : (t : List ℕ) → (granted t ≡ true) ↔ Granted U R may out weigh (permission_holds k p) t) where
   -- the condition on entries with nothing placed before
   met_from_nobody : (g : List Entry) → 1 ≤ length g →
       permission_holds k p (length g) (entries_sum w g) (entries_roles g) ≡ true →

@@ -46,11 +46,11 @@ module _ (sets w : List ℕ) where
       let n = turned_length g [] in
       rw (turned_bytes g []) at (falls_rising sets w end (turned g []) f i j k (omega arith))
 
-module _ {U R : ℕ} {may : ℕ → ℕ → Bool} {weigh : ℕ → ℕ} {sets w : List ℕ} (condition : ℕ → ℕ → ℕ → Bool)
-    (tables : Tables U R may weigh sets w) where
+module _ {U R : ℕ} {may : ℕ → ℕ → Bool} {out : ℕ → Bool} {weigh : ℕ → ℕ} {sets w : List ℕ}
+    (condition : ℕ → ℕ → ℕ → Bool) (tables : Tables U R may out weigh sets w) where
   -- a rising list of entries that meets the condition is a granted group
   pub rises_granted : (g : List Entry) → 1 ≤ length g → length g ≤ 6 → Rises sets w 0 g
-      → condition (length g) (entries_sum w g) (entries_roles g) ≡ true → Granted U R may weigh condition (bytes_of g)
+      → condition (length g) (entries_sum w g) (entries_roles g) ≡ true → Granted U R may out weigh condition (bytes_of g)
   rises_granted g some few r h =
       let (end, f) = rises_falls sets w 0 g [] r tt in
       let n : length (turned g []) ≡ length g = turned_length g [] ∙ add-zero (length g) in
@@ -60,7 +60,7 @@ module _ {U R : ℕ} {may : ℕ → ℕ → Bool} {weigh : ℕ → ℕ} {sets w 
       at (falls_granted condition tables end (turned g []) (rw n some) (rw n few) f (rw (n, s, q) h))
 
   -- every granted list has a rising list of entries with the same number, sum and set
-  pub granted_rises : R ≤ 8 → (t : List ℕ) → Granted U R may weigh condition t
+  pub granted_rises : R ≤ 8 → (t : List ℕ) → Granted U R may out weigh condition t
       → (g : List Entry) × (length g ≡ entry_count t) × Rises sets w 0 g
       × (condition (length g) (entries_sum w g) (entries_roles g) ≡ true)
   granted_rises small t d =

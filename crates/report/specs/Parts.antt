@@ -1,14 +1,15 @@
 -- What the report's steps hand on. Working notions: the promise is in Report.antt and Demand.antt.
-use Rattle.std.specs.Prelude.{ℕ, ◌*◌, ◌^◌, ◌<◌, false, ◌≡◌, List, ◌++◌, length, get_or, drop}
+use Rattle.std.specs.Prelude.{ℕ, ◌*◌, ◌^◌, ◌<◌, false, cond, ◌≡◌, List, ◌++◌, length, get_or, drop}
 use Rattle.folds.specs.Below.{join_below}
 use Rattle.folds.specs.Sets.{set_below}
 use Rattle.reader.specs.Tables.{role_count}
 use Rattle.reader.specs.Rules.{refusal_of}
+use Rattle.weights.specs.declared.Context.{Context}
 use Rattle.weights.specs.declared.Fixed.{Fixed}
 use Rattle.weights.specs.Acting.{may_act}
 use Rattle.weights.specs.Contexts.{out_of_range}
 use Rattle.weights.specs.Setting.{rules_of, FixedBy, ChosenBy}
-use Rattle.decision.specs.Decision.{decision_by}
+use Rattle.decision.specs.Decision.{out_of_date, decision_by}
 use Rattle.multisets.specs.Ends.{NextEnds}
 use Rattle.masks.specs.Sets.{RoleCounts}
 use Rattle.report.specs.declared.parts.Grounds.{Grounds}
@@ -19,6 +20,11 @@ use Rattle.report.specs.Report.{ShownFor, part_bytes, releasable}
 pub record ActingSets (b sets : List ℕ) : Type 0 where
   pub size : length sets ≡ 24
   pub user : (u : ℕ) → u < 24 → get_or sets u 0 ≡ set_below 8 (may_act b u)
+
+-- the same of the users whose days include the context's date; empty for the others too
+pub record SetsInDate (b : List ℕ) (at : Context) (sets : List ℕ) : Type 0 where
+  pub size : length sets ≡ 24
+  pub user : (u : ℕ) → u < 24 → get_or sets u 0 ≡ cond (out_of_date b at u) 0 (set_below 8 (may_act b u))
 
 -- an accepted base, and a setting of it in a context in range
 pub record Settled (b : List ℕ) (s : Fixed) : Type 0 where
@@ -36,10 +42,10 @@ pub record GroundsOf (b : List ℕ) (g : Grounds) : Type 0 where
   pub chosen : ChosenBy (rules_of g.fixed) b g.fixed.at g.chosen.own g.chosen.inh
   pub counted : RoleCounts (2 ^ role_count b) g.counts
 
--- the next ends of the base's users
-pub record UsersOf (b nexts : List ℕ) : Type 0 where
+-- the next ends of the base's users whose days include the context's date
+pub record UsersOf (b : List ℕ) (at : Context) (nexts : List ℕ) : Type 0 where
   pub sets : List ℕ
-  pub acting : ActingSets b sets
+  pub acting : SetsInDate b at sets
   pub ends : NextEnds sets nexts
 
 -- the 13 bytes of permission p

@@ -2,15 +2,17 @@
 ghost use Rattle.std.specs.Prelude.{◌≡◌, ◌∷◌, ◌*◌, ◌≤◌, ◌<◌, length, replicate, IfSome, MatchOption};
 ghost use Rattle.reader.specs.Tables.{permission_count, role_count};
 ghost use Rattle.multisets.specs.Ranks.{first};
-ghost use Rattle.report.specs.Parts.{ActingSets, PartFor, FilledBy, Settled, decided, GroundsOf, UsersOf};
+ghost use Rattle.report.specs.Parts.{ActingSets, SetsInDate, PartFor, FilledBy, Settled, decided};
+ghost use Rattle.report.specs.Parts.{GroundsOf, UsersOf};
 
 use masks::Placed;
 use multisets::ends::{self, Nexts};
 use multisets::levels::LevelTables;
+use reader::users::Days;
 use reader::{Base, Table, bytes};
 use seek::{Found, Masks};
 use weights::acting::Acting;
-use weights::{Chosen, Fixed};
+use weights::{Chosen, Context, Fixed};
 
 // For each user the set of the roles that the user may act in.
 fn acting_sets(base: &Base<'_>, fixed: Fixed) -> [u8; 24]
@@ -19,6 +21,21 @@ fn acting_sets(base: &Base<'_>, fixed: Fixed) -> [u8; 24]
 {
     let acting = Acting::by(base, fixed.juniors);
     std::array::from_fn(|u| acting.roles(u))
+}
+
+// The same without the users whose days don't include the date: those act in no role.
+fn sets_in_date(base: &Base<'_>, at: Context, acting: [u8; 24]) -> [u8; 24]
+    requires { ActingSets base.now acting }
+    ensures { SetsInDate base.now at result }
+{
+    let users = base.part(Table::Users);
+    std::array::from_fn(|u| {
+        if u < users.len() / 8 && Days::of(users, u).leave_out(at.date) {
+            0
+        } else {
+            acting[u]
+        }
+    })
 }
 
 // What a report goes by for every permission: the setting, the weights that count, and the sets' numbers of roles. Base
@@ -68,7 +85,7 @@ fn part_for<const ROWS: usize, const PLACES: usize>(
     tables: &mut LevelTables<ROWS, PLACES>,
     masks: &mut Masks,
 ) -> [u8; 13]
-    requires { GroundsOf base.now s.now × UsersOf base.now tables.old.users.nexts
+    requires { GroundsOf base.now s.now × UsersOf base.now s.now.fixed.at tables.old.users.nexts
         × (tables.old.users.d ≡ role_count base.now) × (permission < permission_count base.now) }
     ensures { PartFor (decided base.now s.now.fixed) permission result
         × (tables.new.users ≡ tables.old.users) }
@@ -90,7 +107,7 @@ fn fill_in<const ROWS: usize, const PLACES: usize>(
     nexts: Nexts,
     out: &mut [u8],
 ) -> u32
-    requires { GroundsOf base.now s.now × UsersOf base.now nexts
+    requires { GroundsOf base.now s.now × UsersOf base.now s.now.fixed.at nexts
         × (8 * first (role_count base.now) 5 ≤ ROWS) × (first (role_count base.now) 7 ≤ PLACES)
         × (ROWS ≤ 3960) × (PLACES ≤ 3003)
         × (13 * permission_count base.now ≤ length out.old) }
@@ -122,7 +139,8 @@ pub fn fill(base: &Base<'_>, fixed: Fixed, out: &mut [u8]) -> u32
     ensures { FilledBy (decided base.now fixed) (permission_count base.now) out.old out.new result }
 {
     let s = grounds_of(base, fixed);
-    let nexts = ends::next_ends(&acting_sets(base, fixed), base.user_count());
+    let sets = sets_in_date(base, fixed.at, acting_sets(base, fixed));
+    let nexts = ends::next_ends(&sets, base.user_count());
     match base.role_count() {
         0..=3 => fill_in::<280, 84>(base, &s, nexts, out),
         4 | 5 => fill_in::<1008, 462>(base, &s, nexts, out),

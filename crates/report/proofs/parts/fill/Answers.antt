@@ -1,44 +1,35 @@
 -- `fill` meets its contract: smaller tables suffice where there are fewer roles.
-use Rattle.std.proofs.Common.{ℕ, ◌*◌, ◌^◌, ◌≤◌, false, cond, ltb, List, ◌≡◌, refl, ◌∙◌, get_or, arith}
+use Rattle.std.proofs.Common.{ℕ, ◌*◌, ◌≤◌, ltb, List, ◌≡◌, refl, ◌∙◌, get_or, arith}
 use mathlib.Core.Logic.{⊎_elim}
 use Rattle.std.proofs.Math.ListN.{get_or-eq_default}
 use borrow.Author.Tests.{ltb-true, ltb-false}
 use Rattle.folds.specs.Below.{sum_below}
-use Rattle.folds.specs.Sets.{set_below}
-use Rattle.folds.proofs.Bools.{met_or_not, never_met}
-use Rattle.folds.proofs.Numbers.{sum_zero}
+use Rattle.folds.proofs.Bools.{met_or_not}
 use Rattle.reader.specs.Tables.{role_count, user_count}
 use Rattle.reader.specs.Rules.{refusal_of}
 use Rattle.reader.proofs.Frame.{users_le}
 use Rattle.reader.proofs.Accepted.{accepted_frame}
-use Rattle.weights.specs.Acting.{may_act}
-use Rattle.weights.proofs.MayAct.{acting_known}
+use Rattle.weights.specs.declared.Context.{Context}
+use Rattle.weights.specs.declared.Fixed.{Fixed}
 use Rattle.multisets.specs.Ranks.{starts, first}
 use Rattle.multisets.specs.Ends.{NextEnds}
 use Rattle.multisets.proofs.Places.{first_mono}
-use Rattle.report.specs.Parts.{ActingSets, UsersOf}
+use Rattle.report.specs.Parts.{SetsInDate, UsersOf}
+use Rattle.report.proofs.InDate.{idle_in_date}
 use Rattle.report.proofs.parts.fill.Goals as goal
 
--- users that aren't there may act in no role
-idle : (b : List ℕ) (u : ℕ) → user_count b ≤ u → set_below 8 (may_act b u) ≡ 0
-unfolding set_below
-idle b u past = sum_zero (λ r. cond (may_act b u r) (2 ^ r) 0) 8 (λ r l. rw (none r))
-  where
-    none : (r : ℕ) → may_act b u r ≡ false
-    none r = never_met (may_act b u r) (λ h. omega (arith, (acting_known b u r h).0))
-
-module _ {b sets : List ℕ} (acting : ActingSets b sets) (ok : refusal_of b ≡ 0) where
+module _ {b sets : List ℕ} {at : Context} (acting : SetsInDate b at sets) (ok : refusal_of b ≡ 0) where
   few_users : {n : ℕ} → n ≡ user_count b → n ≤ 24
   few_users e = rw e (users_le b (accepted_frame b ok))
 
   idle_past : {n : ℕ} → n ≡ user_count b → (u : ℕ) → n ≤ u → get_or sets u 0 ≡ 0
   idle_past e u past = ⊎_elim
-      (λ t. acting.user u (ltb-true u 24 t) ∙ idle b u (rw e at past))
+      (λ t. acting.user u (ltb-true u 24 t) ∙ idle_in_date b at u (rw e at past))
       (λ t. get_or-eq_default sets 0 (omega (arith, ltb-false u 24 t, acting.size)))
       (met_or_not (ltb u 24))
 
-users_of : {b sets nexts : List ℕ} → ActingSets b sets → NextEnds sets nexts → UsersOf b nexts
-users_of {sets = sets} acting ends = record { sets = sets; acting = acting; ends = ends }
+users_of : {b sets nexts : List ℕ} {s f : Fixed} → s ≡ f → SetsInDate b f.at sets → NextEnds sets nexts → UsersOf b s.at nexts
+users_of {sets = sets} same acting ends = record { sets = sets; acting = rw same acting; ends = ends }
 
 -- there is room for d roles where there is for n
 room : (n : ℕ) {d rows places : ℕ} → 8 * first n 5 ≡ rows → first n 7 ≡ places → d ≤ n →
@@ -62,7 +53,7 @@ pub next_ends-nexts-requires : goal.next_ends-nexts-requires
 next_ends-nexts-requires c =
     let p = c.requires in
     let n = c.user_count.ensures in
-    let acting = c.acting_sets.ensures in
+    let acting = c.sets_in_date-sets.ensures in
     (few_users acting p.0.accepted n, idle_past acting p.0.accepted n)
 
 pub fill_in-requires : goal.fill_in-requires
@@ -70,7 +61,7 @@ fill_in-requires c =
     let p = c.requires in
     let few : role_count c.args.base.now ≤ 3 = omega (arith, c.role_count.ensures.0) in
     let (rows, places) = room_for_3 few in
-    let users = users_of c.acting_sets.ensures c.next_ends-nexts.ensures in
+    let users = users_of c.grounds_of-s.ensures.0 c.sets_in_date-sets.ensures c.next_ends-nexts.ensures in
     (c.grounds_of-s.ensures.1, users, rows, places, omega arith, omega arith, p.1)
 
 pub fill_in-requires-in-4 : goal.fill_in-requires-in-4
@@ -78,7 +69,7 @@ fill_in-requires-in-4 c =
     let p = c.requires in
     let few : role_count c.args.base.now ≤ 5 = omega (arith, c.role_count.ensures.0) in
     let (rows, places) = room_for_5 few in
-    let users = users_of c.acting_sets.ensures c.next_ends-nexts.ensures in
+    let users = users_of c.grounds_of-s.ensures.0 c.sets_in_date-sets.ensures c.next_ends-nexts.ensures in
     (c.grounds_of-s.ensures.1, users, rows, places, omega arith, omega arith, p.1)
 
 pub fill_in-requires-in_default : goal.fill_in-requires-in_default
@@ -86,5 +77,5 @@ fill_in-requires-in_default c =
     let p = c.requires in
     let few : role_count c.args.base.now ≤ 8 = omega (arith, c.role_count.ensures) in
     let (rows, places) = room_for_8 few in
-    let users = users_of c.acting_sets.ensures c.next_ends-nexts.ensures in
+    let users = users_of c.grounds_of-s.ensures.0 c.sets_in_date-sets.ensures c.next_ends-nexts.ensures in
     (c.grounds_of-s.ensures.1, users, rows, places, omega arith, omega arith, p.1)
