@@ -19,7 +19,7 @@ module _ (b : List ℕ) (ok : refusal_of b ≡ 0) {t : List ℕ} where
   pub few_policies : t ≡ table_of b policies → length t / 8 ≤ 64
   few_policies e = rw e (records_le b ok policies (lit< tt))
 
-  pub few_users : t ≡ table_of b users → length t / 4 ≤ 64
+  pub few_users : t ≡ table_of b users → length t / 8 ≤ 64
   few_users e = rw e (let n = records_le b ok users (lit< tt) in omega arith)
 
   pub few_exclusions : t ≡ table_of b exclusions → length t / 3 ≤ 64

@@ -189,7 +189,7 @@ pub fn holders(base: &Base<'_>) -> Conflicts
     let roles = base.role_count();
     Conflicts::of(
         Kind::Holder,
-        users.len() / 4,
+        users.len() / 8,
         |u| holds_row(users, roles, x, u),
     )
 }

@@ -19,9 +19,10 @@ use Rattle.reader.proofs.Frame.{table_length, record_count_lem}
 use Rattle.reader.proofs.Accepted.{ContextConditionFine, context_fine, accepted}
 use Rattle.weights.specs.declared.Context.{Context}
 use Rattle.weights.specs.Operators.{meets}
-use Rattle.weights.specs.Contexts.{value_of, context_condition_holds, context_clause_holds, clause_of_holds}
+use Rattle.weights.specs.Contexts.{on_date, value_of, context_condition_holds, context_clause_holds, clause_of_holds}
 use Rattle.weights.specs.Contexts.{context_holds}
-use Rattle.related.specs.Related.{both_hold, related, clause_of, fits_at, fits, both_fit, value_fits}
+use Rattle.weights.proofs.Dates.{holds_any_date}
+use Rattle.related.specs.Related.{both_hold, related_on, related, clause_of, fits_at, fits, both_fit, value_fits}
 use Rattle.related.specs.Related.{some_value_fits, meetable, compatible, joins, meets_some}
 
 -- what is true of 0, 1 and 2 is true of each number below 3
@@ -76,20 +77,26 @@ module _ (c : List ℕ) where
 
   -- of related numbers a context can be named that satisfies both
   related_some : (x y : ℕ) → related c x y ≡ true → (at : Context) × InRange at × (both_hold c x y at ≡ true)
-  unfolding related value_of
+  unfolding related_on value_of
   related_some x y h =
       let (m, lm, hm) = any_some _ 1440 h in
       let (d, ld, hd) = any_some _ 7 hm in
       let (z, lz, hz) = any_some _ 256 hd in
-      let at : Context = record { minute = m; day = d; zone = z } in
+      let at : Context = record { minute = m; day = d; zone = z; date = 0 } in
       (at, below_three (λ p. value_of at p < range_of p) lm ld lz, hz)
 
   -- a context that satisfies both numbers relates them
   related_found : (x y : ℕ) (at : Context) → InRange at → both_hold c x y at ≡ true → related c x y ≡ true
-  unfolding related value_of
+  unfolding related_on value_of
   related_found x y at r h =
+      let on_0 : both_hold c x y (on_date at 0) ≡ true = rw (holds_any_date at 0 c x, holds_any_date at 0 c y) h in
       any_found _ 1440 at.minute (r 0 (omega arith))
-      (any_found _ 7 at.day (r 1 (omega arith)) (any_found _ 256 at.zone (r 2 (omega arith)) h))
+      (any_found _ 7 at.day (r 1 (omega arith)) (any_found _ 256 at.zone (r 2 (omega arith)) on_0))
+
+  -- on every date the same numbers are related
+  pub any_date : (date x y : ℕ) → related_on date c x y ≡ related c x y
+  unfolding related_on context_holds context_clause_holds context_condition_holds value_of
+  any_date date x y = refl
 
   -- relatedness is symmetric
   pub related_sym : (x y : ℕ) → related c x y ≡ related c y x
@@ -203,7 +210,7 @@ module _ (c : List ℕ) where
         let (m, fm) = value 0 (omega arith) in
         let (d, fd) = value 1 (omega arith) in
         let (z, fz) = value 2 (omega arith) in
-        let at : Context = record { minute = m; day = d; zone = z } in
+        let at : Context = record { minute = m; day = d; zone = z; date = 0 } in
         let f = below_three (λ p. FitsBoth c i j p (value_of at p)) fm fd fz in
         (at, λ p l. (f p l).range, fits_clause at i (λ p l. (f p l).first), fits_clause at j (λ p l. (f p l).second))
       where

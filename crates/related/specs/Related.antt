@@ -12,14 +12,18 @@ use Rattle.weights.specs.Contexts.{context_holds}
 abbrev pub both_hold : List ℕ → ℕ → ℕ → Context → Bool
 both_hold c x y at = context_holds at c x && context_holds at c y
 
--- two context numbers are related if some one context (minute, day, zone) satisfies both. The definition; the code
--- never runs it
-unfoldable pub related : List ℕ → ℕ → ℕ → Bool
-related c x y =
+-- some one minute, day and zone satisfies both numbers on a date
+unfoldable pub related_on : ℕ → List ℕ → ℕ → ℕ → Bool
+related_on date c x y =
     any_below (range_of 0)
     (λ m.
     any_below (range_of 1)
-    (λ d. any_below (range_of 2) (λ z. both_hold c x y (record { minute = m; day = d; zone = z }))))
+    (λ d. any_below (range_of 2) (λ z. both_hold c x y (record { minute = m; day = d; zone = z; date = date }))))
+
+-- two context numbers are related if some one context (minute, day, zone) satisfies both; the law `any_date` says that
+-- every date gives the same. The definition; the code never runs it
+abbrev pub related : List ℕ → ℕ → ℕ → Bool
+related c x y = related_on 0 c x y
 
 -- The computed test, which the laws in proofs/Relating.antt tie to the above.
 

@@ -9,7 +9,7 @@ use Rattle.conflicts.proofs.rows.holders.Goals as goal
 -- the rows of tables read are those of the base
 found : (b : List ℕ) {us x rows : List ℕ} {roles : ℕ} →
     us ≡ table_of b users → x ≡ table_of b exclusions → roles ≡ role_count b →
-    Rows (length us / 4) (length x / 3) (holds_both roles us x) rows → Holders b rows
+    Rows (length us / 8) (length x / 3) (holds_both roles us x) rows → Holders b rows
 found b us_is x_is roles_are are = rw (us_is, x_is, roles_are) at are
 
 pub of-requires-clause-few : goal.of-requires-clause-few
