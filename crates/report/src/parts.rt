@@ -30,11 +30,8 @@ fn sets_in_date(base: &Base<'_>, at: Context, acting: [u8; 24]) -> [u8; 24]
 {
     let users = base.part(Table::Users);
     std::array::from_fn(|u| {
-        if u < users.len() / 8 && Days::of(users, u).leave_out(at.date) {
-            0
-        } else {
-            acting[u]
-        }
+        let out = u < users.len() / 8 && Days::of(users, u).leave_out(at.date);
+        if out { 0 } else { acting[u] }
     })
 }
 
