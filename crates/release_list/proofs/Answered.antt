@@ -138,12 +138,12 @@ module _ (b : List ℕ) (at : Context) (was after : List ℕ) (r : Answer) (size
           bytes = rw (e, ← count_is, ← lines_are) t.1;
         }
 
--- what the program prints for an input shorter than 4 bytes
-pub short_listed : {input out after : List ℕ} {n : ℕ} → length input < 4 → 768 ≤ length out →
+-- what the program prints for an input shorter than 6 bytes
+pub short_listed : {input out after : List ℕ} {n : ℕ} → length input < 6 → 768 ≤ length out →
     Written (refused_text 1) out 0 n after → Listed input out after n
 unfolding listing_text
 short_listed {input} {out} h l w =
-    let e = lt-ltb (length input) 4 h in
+    let e = lt-ltb (length input) 6 h in
     let t = at_front (refused_text 1) w (omega (arith, count_short (ascii "refused ") 1 (omega arith))) in
     record {
       chosen = λ p. [];
@@ -153,11 +153,11 @@ short_listed {input} {out} h l w =
     }
 
 -- and for any other
-pub long_listed : {input out after : List ℕ} {n : ℕ} → 4 ≤ length input →
+pub long_listed : {input out after : List ℕ} {n : ℕ} → 6 ≤ length input →
     ReportListed (base_of input) (context_of input) out after n → Listed input out after n
 unfolding listing_text
 long_listed {input} h d =
-    let e = le-ltb (length input) 4 h in
+    let e = le-ltb (length input) 6 h in
     record {
       chosen = d.chosen;
       shown = λ k. d.shown;

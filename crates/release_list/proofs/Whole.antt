@@ -18,22 +18,22 @@ use Rattle.release_list.specs.Text.{refused_text, refusal_for, report_text, base
 use Rattle.release_list.specs.Text.{WholeListed}
 use Rattle.release_list.proofs.Answered.{listed_within}
 
--- a base of more than 2,364 bytes is refused by 1
-long_refused : (b : List ℕ) (at : Context) → 2364 < length b → refusal_for b at ≡ 1
+-- a base of more than 2,460 bytes is refused by 1
+long_refused : (b : List ℕ) (at : Context) → 2460 < length b → refusal_for b at ≡ 1
 unfolding report_refusal refusal_of length_bad
-long_refused b at h = rw (lt-ltb 2364 (length b) h, or-true)
+long_refused b at h = rw (lt-ltb 2460 (length b) h, or-true)
 
--- the base of an input of more than 2,368 bytes is such a base
-module _ (input : List ℕ) (long : 2368 < length input) where
+-- the base of an input of more than 2,466 bytes is such a base
+module _ (input : List ℕ) (long : 2466 < length input) where
   base_refused : refusal_for (base_of input) (context_of input) ≡ 1
   base_refused = long_refused (base_of input) (context_of input) (rw length-drop (omega arith))
 
   long_text : (chosen : ℕ → List ℕ) → listing_text input chosen ≡ refused_text 1
   unfolding listing_text report_text
-  long_text chosen = rw (le-ltb (length input) 4 (omega arith), base_refused)
+  long_text chosen = rw (le-ltb (length input) 6 (omega arith), base_refused)
 
 -- so the text for each such input is the same
-long_same : (part whole : List ℕ) {out after : List ℕ} {n : ℕ} → 2368 < length part → 2368 < length whole →
+long_same : (part whole : List ℕ) {out after : List ℕ} {n : ℕ} → 2466 < length part → 2466 < length whole →
     Listed part out after n → Listed whole out after n
 long_same part whole {out} {after} {n} p w d =
     let e : listing_text part d.chosen ≡ listing_text whole d.chosen =
@@ -46,7 +46,7 @@ long_same part whole {out} {after} {n} p w d =
     }
 
 -- the text for the part that was read is that for the whole: the part is the whole, or both are long
-pub whole_listed : {input out after : List ℕ} {read n : ℕ} → length input ≡ 2369 →
+pub whole_listed : {input out after : List ℕ} {read n : ℕ} → length input ≡ 2467 →
     Listed (take read input) out after n → WholeListed input read out after n
 whole_listed {input} {out} {after} {read} {n} size d =
     record { listed = λ whole e. ⊎_elim (more whole e) (all whole e) (met_or_not (ltb (length input) (length whole))) }

@@ -68,22 +68,23 @@ report_text b at chosen =
     ++ releasable_text (releasable (decision_of b at) (permission_count b)))
     (refused_text (refusal_for b at))
 
--- the input: minute (2 bytes), day, zone (1 byte each), and then a base
+-- the input: minute (2 bytes), day, zone (1 byte each), date (2 bytes), and then a base
 unfoldable pub context_of : List ℕ → Context
-context_of input = record { minute = word16 input 0; day = get_or input 2 0; zone = get_or input 3 0 }
+context_of input =
+    record { minute = word16 input 0; day = get_or input 2 0; zone = get_or input 3 0; date = word16 input 4 }
 
 abbrev pub base_of : List ℕ → List ℕ
-base_of input = drop 4 input
+base_of input = drop 6 input
 
 -- what the program prints for an input
 unfoldable pub listing_text : List ℕ → (ℕ → List ℕ) → List ℕ
 listing_text input chosen =
-    cond (ltb (length input) 4) (refused_text 1) (report_text (base_of input) (context_of input) chosen)
+    cond (ltb (length input) 6) (refused_text 1) (report_text (base_of input) (context_of input) chosen)
 
 -- the text for an input stands in the first n bytes of `after`, which held `out`; the choice of group is the report's
 pub record Listed (input out after : List ℕ) (n : ℕ) : Type 0 where
   pub chosen : ℕ → List ℕ
-  pub shown : 4 ≤ length input → refusal_for (base_of input) (context_of input) ≡ 0 →
+  pub shown : 6 ≤ length input → refusal_for (base_of input) (context_of input) ≡ 0 →
       (p : ℕ) → p < permission_count (base_of input) → ShownFor (decision_of (base_of input) (context_of input)) p
       (chosen p)
   pub size : n ≡ length (listing_text input chosen)

@@ -7,15 +7,16 @@ use crate::text::Page;
 use reader::{Refusal, Table};
 use weights::Context;
 
-// The context in the first four bytes of the input: minute (2 bytes), day, zone (1 byte each).
+// The context in the first six bytes of the input: minute (2 bytes), day, zone (1 byte each), date (2 bytes).
 fn context_of(input: &[u8]) -> Context
-    requires { 4 ≤ length input.now }
+    requires { 6 ≤ length input.now }
     ensures { result ≡ context_of input.now }
 {
     Context {
         minute: u32::from(reader::bytes::get16(input, 0)),
         day: u32::from(input[2]),
         zone: u32::from(input[3]),
+        date: u32::from(reader::bytes::get16(input, 4)),
     }
 }
 
@@ -43,18 +44,18 @@ fn put_listing(page: &mut Page<'_>, input: &[u8])
     ensures same { SameBuffer page.old page.new }
     ensures text { Listed input.now page.old.out.now page.new.out.now page.new.len }
 {
-    if input.len() < 4 {
+    if input.len() < 6 {
         page.put_count(b"refused ", Refusal::BaseLength.into());
     } else {
-        put_report(page, &input[4..], context_of(input));
+        put_report(page, &input[6..], context_of(input));
     }
 }
 
 // Inner: all that the program prints, in the first bytes of `out`; how many. `input` is its buffer, of which `read`
-// bytes were read: 4 of context, 2,364 of base, and one more, by which a longer base is seen. The number stands
+// bytes were read: 6 of context, 2,460 of base, and one more, by which a longer base is seen. The number stands
 // beside the buffer, since the promise needs the buffer's own length: only fewer bytes than that are the whole input.
 pub fn listing(input: &[u8], read: usize, out: &mut [u8]) -> usize
-    requires { (length input.now ≡ 2369) × (read ≤ 2369) × (768 ≤ length out.old) }
+    requires { (length input.now ≡ 2467) × (read ≤ 2467) × (768 ≤ length out.old) }
     ensures { WholeListed input.now read out.old out.new result }
 {
     let mut page = Page { out, len: 0 };

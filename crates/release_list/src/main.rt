@@ -10,8 +10,8 @@ use std::io::Write;
 
 // Reads until its buffer is full or the input ends, and prints the text for the whole input.
 fn main(rt: HostRuntime) -> io::Result<()> {
-    // 4 bytes of context, 2,364 of base, and one more, by which a longer base is seen
-    let mut input = [0u8; 2369];
+    // 6 bytes of context, 2,460 of base, and one more, by which a longer base is seen
+    let mut input = [0u8; 2467];
     let read = input::read_full(&mut rt.stdin(), &mut input)?;
     // sixteen lines of at most 47 bytes, and a last one
     let mut out = [0u8; 768];

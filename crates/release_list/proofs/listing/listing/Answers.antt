@@ -4,7 +4,7 @@ use Rattle.release_list.specs.Text.{Listed, WholeListed}
 use Rattle.release_list.proofs.Whole.{whole_listed}
 use Rattle.release_list.proofs.listing.listing.Goals as goal
 
-by_page : {input out after now : List ℕ} {read n : ℕ} → now ≡ after → length input ≡ 2369 →
+by_page : {input out after now : List ℕ} {read n : ℕ} → now ≡ after → length input ≡ 2467 →
     Listed (take read input) out after n → WholeListed input read out now n
 by_page e size d = rw e (whole_listed size d)
 
