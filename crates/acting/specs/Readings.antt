@@ -34,7 +34,7 @@ unfoldable pub head_buyer : List ℕ
 head_buyer =
     -- H, from 0: 0 over 1
     0 ∷ 1 ∷
-    -- U, from 2: 3, days 0 to 65535
+    -- U, from 2: 3, with days 0 and 65535
     3 ∷ 0 ∷ 0 ∷ 0 ∷ 0 ∷ 0 ∷ 255 ∷ 255 ∷
     -- P, from 10: one permission (1, 1)
     1 ∷ 1 ∷
