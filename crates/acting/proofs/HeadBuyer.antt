@@ -17,11 +17,12 @@ use Rattle.reader.specs.Rules.{policy_bad, policies_bad, exclusions_bad, records
 use Rattle.weights.specs.declared.Context.{Context}
 use Rattle.weights.specs.Contexts.{out_of_range, context_holds}
 use Rattle.weights.specs.Weights.{weight}
+use Rattle.weights.proofs.Dates.{every_date}
 use Rattle.weights.specs.Acting.{may_act}
 use Rattle.decision.specs.Conditions.{permission_holds}
 use Rattle.decision.specs.Groups.{entry_count, entry_user, entry_role, sum_of, length_refused, some_unknown}
 use Rattle.decision.specs.Groups.{stands_before, some_twice}
-use Rattle.decision.specs.Groups.{some_ineligible, some_weightless, members_refusal}
+use Rattle.decision.specs.Groups.{some_ineligible, some_out_of_date, some_weightless, members_refusal}
 use Rattle.decision.specs.Decision.{group_decision, decision_by, decision_of}
 use Rattle.decision.proofs.Granting.{granting, head_passed}
 use Rattle.report.specs.Smallest.{smallest_by, smallest_of}
@@ -45,15 +46,15 @@ unfolding head_buyer
     hierarchy_bad users_bad parameter_ok code_product clauses_bad clause_bad clause_slot_bad contexts_bad policies_bad
     policy_bad
     exclusions_bad records_refusal refusal_of held_by may_act context_holds weight
-    length_refused some_unknown some_twice stands_before some_ineligible members_refusal some_weightless
-    sum_of permission_holds group_decision decision_by
+    length_refused some_unknown some_twice stands_before some_ineligible members_refusal some_out_of_date
+    some_weightless sum_of permission_holds group_decision decision_by
 computed = record {
   passes = refl;
   users = refl;
   roles = refl;
   manager_alone = refl;
   weightless = λ at. refl;
-  granted = λ at in_range. rw in_range;
+  granted = λ at in_range. rw (in_range, every_date at in_range);
 }
 
 -- whoever holds a role holds the manager role, which has no weight
@@ -68,7 +69,7 @@ held_weightless at (suc u) r user role held heavy = omega arith
 none_held : (at : Context) (g : List ℕ) → decision_by_holding head_buyer at 0 g ≡ 0 → ⊥
 none_held at g h =
     let left = (head_passed head_buyer at 0 _ h).3 in
-    let d = (granting _ _ _ _ (permission_holds (table_of head_buyer clauses) 0) g).0 left in
+    let d = (granting _ _ _ _ _ (permission_holds (table_of head_buyer clauses) 0) g).0 left in
     let first : 0 < entry_count g = d.some in
     let user : entry_user g 0 < 1 = rw computed.users at (d.user 0 first) in
     let role : entry_role g 0 < 2 = rw computed.roles at (d.role 0 first) in

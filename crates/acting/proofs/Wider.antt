@@ -30,7 +30,7 @@ module _ (b : List ℕ) (at : Context) (p : ℕ) where
   held_granted g h =
       let (ok, there, in_range, left) = head_passed b at p _ h in
       let condition = permission_holds (table_of b clauses) p in
-      rw (ok, lt-ltb _ _ there, in_range) (wider_granted _ _ _ _ _ condition g (held_acting b) left)
+      rw (ok, lt-ltb _ _ there, in_range) (wider_granted _ _ _ _ _ _ condition g (held_acting b) left)
 
   held_too : (g : List ℕ) → eqb (decision_by_holding b at p g) 0 ≡ true → eqb (decision_of b at p g) 0 ≡ true
   held_too g h = eq-eqb _ _ (held_granted g (eqb-true _ _ h))
@@ -52,7 +52,8 @@ module _ (b : List ℕ) (at : Context) (p : ℕ) where
       decision_of b at p g ≡ decision_by_holding b at p g
   unfolding decision_by group_decision
   flat_decision flat g =
-      rw (same_refusal _ _ _ _ _ _ _ _ _ _ refl refl (acting_flat b flat) (λ r. refl) (λ n s t. refl) g)
+      rw (same_refusal _ _ _ _ _ _ _ _ _ _ _ _ refl refl (acting_flat b flat) (λ u l. refl) (λ r. refl)
+      (λ n s t. refl) g)
 
   -- and every number is as it was
   pub flat_smallest : record_count hierarchy (table_of b hierarchy) ≡ 0 →

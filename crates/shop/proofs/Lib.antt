@@ -4,3 +4,4 @@ pub mod Resolved
 pub mod Overridden
 pub mod TakenBack
 pub mod Parameters
+pub mod Dated

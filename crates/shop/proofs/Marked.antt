@@ -1,4 +1,5 @@
--- The marked cases hold: all but the related contexts by computing both sides.
+-- The marked cases hold: all but the related contexts by computing both sides. Days 0 to 65535 include every date in
+-- range, so 24 refuses none of the groups.
 use Prim.Native.Nat.{ℕ, ◌+◌}
 use mathlib.Core.Bool.{or-false}
 use mathlib.Core.Path.{◌≡◌, refl}
@@ -17,14 +18,15 @@ use Rattle.reader.specs.Rules.{exclusions_bad, records_refusal, refusal_of}
 use Rattle.reader.proofs.Accepted.{accepted}
 use Rattle.weights.specs.Contexts.{out_of_range, context_holds}
 use Rattle.weights.specs.Weights.{weight}
+use Rattle.weights.proofs.Dates.{every_date}
 use Rattle.weights.specs.Acting.{may_act}
 use Rattle.decision.specs.Conditions.{permission_holds}
 use Rattle.decision.specs.Groups.{sum_of, length_refused, some_unknown, stands_before, some_twice, some_ineligible}
-use Rattle.decision.specs.Groups.{some_weightless, members_refusal}
+use Rattle.decision.specs.Groups.{some_out_of_date, some_weightless, members_refusal}
 use Rattle.decision.specs.Decision.{group_decision, decision_by}
 use Rattle.related.specs.Related.{related, fits, both_fit, some_value_fits, meetable, compatible, meets_some}
 use Rattle.related.proofs.Relating.{related_pairs, whole_contexts}
-use Rattle.shop.specs.Shop.{shop, with_parameter, up_to600, from600, before600, before0, edges}
+use Rattle.shop.specs.Shop.{shop, at, with_parameter, up_to600, from600, before600, before0, edges}
 use Rattle.shop.specs.Marked.{Marked}
 
 -- in an accepted base the test by pairs of clauses, which computes, says whether two context numbers are related
@@ -42,7 +44,7 @@ unfolding shop with_parameter edges
     records_refusal refusal_of
     context_holds weight
     out_of_range length_refused some_unknown some_twice stands_before some_ineligible held_by may_act members_refusal
-    some_weightless sum_of permission_holds group_decision decision_by
+    some_out_of_date some_weightless sum_of permission_holds group_decision decision_by
     fits both_fit some_value_fits meetable compatible
 marked =
     record {
@@ -50,27 +52,30 @@ marked =
       offsets = refl;
       size = refl;
       passes = refl;
-      manager_600 = λ d z. refl;
-      buyer_600 = λ d z. refl;
-      clerk_600 = λ d z. refl;
-      manager_480 = λ d z. refl;
-      buyer_480 = λ d z. refl;
-      clerk_480 = λ d z. refl;
-      clerk_540 = λ d z. refl;
-      clerk_1020 = λ d z. refl;
-      clerk_539 = λ d z. refl;
-      clerk_1021 = λ d z. refl;
-      alone = λ d z h. rw h;
-      alone_sum = λ d z. refl;
+      parameters = refl;
+      first_days = refl;
+      last_days = refl;
+      manager_600 = λ d z t. refl;
+      buyer_600 = λ d z t. refl;
+      clerk_600 = λ d z t. refl;
+      manager_480 = λ d z t. refl;
+      buyer_480 = λ d z t. refl;
+      clerk_480 = λ d z t. refl;
+      clerk_540 = λ d z t. refl;
+      clerk_1020 = λ d z t. refl;
+      clerk_539 = λ d z t. refl;
+      clerk_1021 = λ d z t. refl;
+      alone = λ d z t h. rw (h, every_date (at 600 d z t) h);
+      alone_sum = λ d z t. refl;
       alone_entries = refl;
-      two_with_2 = λ d z h. rw h;
-      two_with_3 = λ d z h. rw h;
-      sum_with_2 = λ d z. refl;
-      sum_with_3 = λ d z. refl;
-      three = λ d z h. rw h;
-      three_sum = λ d z. refl;
-      weightless_with_2 = λ d z h. rw h;
-      weightless_with_3 = λ d z h. rw h;
+      two_with_2 = λ d z t h. rw (h, every_date (at 600 d z t) h);
+      two_with_3 = λ d z t h. rw (h, every_date (at 600 d z t) h);
+      sum_with_2 = λ d z t. refl;
+      sum_with_3 = λ d z t. refl;
+      three = λ d z t h. rw (h, every_date (at 600 d z t) h);
+      three_sum = λ d z t. refl;
+      weightless_with_2 = λ d z t h. rw (h, every_date (at 480 d z t) h);
+      weightless_with_3 = λ d z t h. rw (h, every_date (at 480 d z t) h);
       twice = λ c h. rw h;
       may_not_act = λ c h. rw h;
       parameter_is = λ x. omega arith;

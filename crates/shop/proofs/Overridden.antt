@@ -15,7 +15,7 @@ use Rattle.weights.specs.Weights.{weight}
 use Rattle.weights.specs.Acting.{may_act}
 use Rattle.decision.specs.Conditions.{permission_holds}
 use Rattle.decision.specs.Groups.{sum_of, length_refused, some_unknown, stands_before, some_twice, some_ineligible}
-use Rattle.decision.specs.Groups.{some_weightless, members_refusal}
+use Rattle.decision.specs.Groups.{some_out_of_date, some_weightless, members_refusal}
 use Rattle.decision.specs.Decision.{group_decision, decision_by, decision_lent}
 use Rattle.shop.specs.Shop.{shop}
 use Rattle.shop.specs.Overridden.{two_of_buyer, Overridden}
@@ -29,7 +29,7 @@ unfolding shop two_of_buyer
     records_refusal refusal_of
     context_holds rule_before list_refused weight
     out_of_range length_refused some_unknown some_twice stands_before some_ineligible held_by may_act members_refusal
-    some_weightless sum_of permission_holds group_decision decision_by decision_lent
+    some_out_of_date some_weightless sum_of permission_holds group_decision decision_by decision_lent
 overridden = record {
   accepted = refl;
   without = refl;

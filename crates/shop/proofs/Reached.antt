@@ -30,12 +30,12 @@ unfolding shop side_by_side idle behind heavier_behind
     length_refused some_unknown some_twice stands_before some_ineligible held_by may_act members_refusal sum_of
     role_or_senior touched bound_of change_refused bound_refusal answered
 reached = record {
-  by_manager = record { bound = record { accepted = refl; answer = refl }; sums = λ d z. refl };
-  by_buyer = record { bound = record { accepted = refl; answer = refl }; sums = λ d z. refl };
-  by_clerk = record { bound = record { accepted = refl; answer = refl }; sums = λ d z. refl };
-  at_the_side = record { bound = record { accepted = refl; answer = refl }; sums = λ d z. refl };
-  by_role_alone = record { bound = record { accepted = refl; answer = refl }; sums = λ d z. refl };
-  by_role_behind = record { bound = record { accepted = refl; answer = refl }; sums = λ d z. refl };
-  in_table_order = record { bound = record { accepted = refl; answer = refl }; sums = λ d z. refl };
-  by_weight = record { bound = record { accepted = refl; answer = refl }; sums = λ d z. refl };
+  by_manager = record { bound = record { accepted = refl; answer = refl }; sums = λ d z t. refl };
+  by_buyer = record { bound = record { accepted = refl; answer = refl }; sums = λ d z t. refl };
+  by_clerk = record { bound = record { accepted = refl; answer = refl }; sums = λ d z t. refl };
+  at_the_side = record { bound = record { accepted = refl; answer = refl }; sums = λ d z t. refl };
+  by_role_alone = record { bound = record { accepted = refl; answer = refl }; sums = λ d z t. refl };
+  by_role_behind = record { bound = record { accepted = refl; answer = refl }; sums = λ d z t. refl };
+  in_table_order = record { bound = record { accepted = refl; answer = refl }; sums = λ d z t. refl };
+  by_weight = record { bound = record { accepted = refl; answer = refl }; sums = λ d z t. refl };
 }

@@ -2,7 +2,7 @@
 use Rattle.std.specs.Prelude.{ℕ, true, false, ◌≡◌, [], ◌∷◌, map, length, ltb, leb}
 use Rattle.reader.specs.Tables.{hierarchy, users, permissions, clauses, contexts, policies, exclusions}
 use Rattle.reader.specs.Tables.{table_offset, role_count, table_of}
-use Rattle.reader.specs.Fields.{parameter}
+use Rattle.reader.specs.Fields.{parameter, first_day, last_day}
 use Rattle.reader.specs.Rules.{refusal_of}
 use Rattle.weights.specs.declared.Context.{Context}
 use Rattle.weights.specs.Contexts.{out_of_range, context_holds}
@@ -15,47 +15,52 @@ use Rattle.shop.specs.Shop.{manager_alone, manager_and_clerk, buyer_and_clerks, 
 use Rattle.shop.specs.Shop.{with_parameter, up_to600, from600, before600, before0, edges}
 
 pub record Marked : Type 0 where
-  -- the base: "R = 3", "Offsets 0, 4, 20, 22, 38, 54, 78; length 114"; it passes the check
+  -- the base: "R = 3"; by request Seven "its offsets become 0, 4, 36, 38, 54, 70, 94 and its length 130"; it passes the
+  -- check
   pub roles : role_count shop ≡ 3
   pub offsets :
       map (table_offset shop) (hierarchy ∷ users ∷ permissions ∷ clauses ∷ contexts ∷ policies ∷ exclusions ∷ [])
-      ≡ (0 ∷ 4 ∷ 20 ∷ 22 ∷ 38 ∷ 54 ∷ 78 ∷ [])
-  pub size : length shop ≡ 114
+      ≡ (0 ∷ 4 ∷ 36 ∷ 38 ∷ 54 ∷ 70 ∷ 94 ∷ [])
+  pub size : length shop ≡ 130
   pub passes : refusal_of shop ≡ 0
-  -- 1. "Minute 600: the weights are 5, 2, 1.", on every day and in every zone
-  pub manager_600 : (d z : ℕ) → weight [] shop (at 600 d z) manager permission ≡ 5
-  pub buyer_600 : (d z : ℕ) → weight [] shop (at 600 d z) buyer permission ≡ 2
-  pub clerk_600 : (d z : ℕ) → weight [] shop (at 600 d z) clerk permission ≡ 1
+  -- "Users 0 to 3: 3, 5, 7, 7."; by request Seven "The small shop's users get days 0 and 65535"
+  pub parameters : map (parameter (table_of shop users)) (0 ∷ 1 ∷ 2 ∷ 3 ∷ []) ≡ (3 ∷ 5 ∷ 7 ∷ 7 ∷ [])
+  pub first_days : map (first_day (table_of shop users)) (0 ∷ 1 ∷ 2 ∷ 3 ∷ []) ≡ (0 ∷ 0 ∷ 0 ∷ 0 ∷ [])
+  pub last_days : map (last_day (table_of shop users)) (0 ∷ 1 ∷ 2 ∷ 3 ∷ []) ≡ (65535 ∷ 65535 ∷ 65535 ∷ 65535 ∷ [])
+  -- 1. "Minute 600: the weights are 5, 2, 1.", on every day, in every zone and on every date
+  pub manager_600 : (d z t : ℕ) → weight [] shop (at 600 d z t) manager permission ≡ 5
+  pub buyer_600 : (d z t : ℕ) → weight [] shop (at 600 d z t) buyer permission ≡ 2
+  pub clerk_600 : (d z t : ℕ) → weight [] shop (at 600 d z t) clerk permission ≡ 1
   -- 2. "Minute 480: 4, 1, 0."
-  pub manager_480 : (d z : ℕ) → weight [] shop (at 480 d z) manager permission ≡ 4
-  pub buyer_480 : (d z : ℕ) → weight [] shop (at 480 d z) buyer permission ≡ 1
-  pub clerk_480 : (d z : ℕ) → weight [] shop (at 480 d z) clerk permission ≡ 0
+  pub manager_480 : (d z t : ℕ) → weight [] shop (at 480 d z t) manager permission ≡ 4
+  pub buyer_480 : (d z t : ℕ) → weight [] shop (at 480 d z t) buyer permission ≡ 1
+  pub clerk_480 : (d z t : ℕ) → weight [] shop (at 480 d z t) clerk permission ≡ 0
   -- 3. "Minutes 540 and 1020: the clerk has 1; at 539 and 1021, 0."
-  pub clerk_540 : (d z : ℕ) → weight [] shop (at 540 d z) clerk permission ≡ 1
-  pub clerk_1020 : (d z : ℕ) → weight [] shop (at 1020 d z) clerk permission ≡ 1
-  pub clerk_539 : (d z : ℕ) → weight [] shop (at 539 d z) clerk permission ≡ 0
-  pub clerk_1021 : (d z : ℕ) → weight [] shop (at 1021 d z) clerk permission ≡ 0
-  -- 4. "Minute 600, manager alone: 17, sum 5 but one entry.", on every day and in every zone in range
-  pub alone : (d z : ℕ) → out_of_range (at 600 d z) ≡ false →
-      decision_of shop (at 600 d z) permission manager_alone ≡ 17
-  pub alone_sum : (d z : ℕ) → sum_of (λ r. weight [] shop (at 600 d z) r permission) manager_alone ≡ 5
+  pub clerk_540 : (d z t : ℕ) → weight [] shop (at 540 d z t) clerk permission ≡ 1
+  pub clerk_1020 : (d z t : ℕ) → weight [] shop (at 1020 d z t) clerk permission ≡ 1
+  pub clerk_539 : (d z t : ℕ) → weight [] shop (at 539 d z t) clerk permission ≡ 0
+  pub clerk_1021 : (d z t : ℕ) → weight [] shop (at 1021 d z t) clerk permission ≡ 0
+  -- 4. "Minute 600, manager alone: 17, sum 5 but one entry.", on every day, in every zone and on every date in range
+  pub alone : (d z t : ℕ) → out_of_range (at 600 d z t) ≡ false →
+      decision_of shop (at 600 d z t) permission manager_alone ≡ 17
+  pub alone_sum : (d z t : ℕ) → sum_of (λ r. weight [] shop (at 600 d z t) r permission) manager_alone ≡ 5
   pub alone_entries : entry_count manager_alone ≡ 1
   -- 5. "Minute 600, manager and clerk: 0, sum 6.", with either clerk
-  pub two_with_2 : (d z : ℕ) → out_of_range (at 600 d z) ≡ false →
-      decision_of shop (at 600 d z) permission (manager_and_clerk 2) ≡ 0
-  pub two_with_3 : (d z : ℕ) → out_of_range (at 600 d z) ≡ false →
-      decision_of shop (at 600 d z) permission (manager_and_clerk 3) ≡ 0
-  pub sum_with_2 : (d z : ℕ) → sum_of (λ r. weight [] shop (at 600 d z) r permission) (manager_and_clerk 2) ≡ 6
-  pub sum_with_3 : (d z : ℕ) → sum_of (λ r. weight [] shop (at 600 d z) r permission) (manager_and_clerk 3) ≡ 6
+  pub two_with_2 : (d z t : ℕ) → out_of_range (at 600 d z t) ≡ false →
+      decision_of shop (at 600 d z t) permission (manager_and_clerk 2) ≡ 0
+  pub two_with_3 : (d z t : ℕ) → out_of_range (at 600 d z t) ≡ false →
+      decision_of shop (at 600 d z t) permission (manager_and_clerk 3) ≡ 0
+  pub sum_with_2 : (d z t : ℕ) → sum_of (λ r. weight [] shop (at 600 d z t) r permission) (manager_and_clerk 2) ≡ 6
+  pub sum_with_3 : (d z t : ℕ) → sum_of (λ r. weight [] shop (at 600 d z t) r permission) (manager_and_clerk 3) ≡ 6
   -- 6. "Minute 600, buyer and both clerks: 17, sum 4."
-  pub three : (d z : ℕ) → out_of_range (at 600 d z) ≡ false →
-      decision_of shop (at 600 d z) permission buyer_and_clerks ≡ 17
-  pub three_sum : (d z : ℕ) → sum_of (λ r. weight [] shop (at 600 d z) r permission) buyer_and_clerks ≡ 4
+  pub three : (d z t : ℕ) → out_of_range (at 600 d z t) ≡ false →
+      decision_of shop (at 600 d z t) permission buyer_and_clerks ≡ 17
+  pub three_sum : (d z t : ℕ) → sum_of (λ r. weight [] shop (at 600 d z t) r permission) buyer_and_clerks ≡ 4
   -- 7. "Minute 480, manager and clerk: 16.", with either clerk
-  pub weightless_with_2 : (d z : ℕ) → out_of_range (at 480 d z) ≡ false →
-      decision_of shop (at 480 d z) permission (manager_and_clerk 2) ≡ 16
-  pub weightless_with_3 : (d z : ℕ) → out_of_range (at 480 d z) ≡ false →
-      decision_of shop (at 480 d z) permission (manager_and_clerk 3) ≡ 16
+  pub weightless_with_2 : (d z t : ℕ) → out_of_range (at 480 d z t) ≡ false →
+      decision_of shop (at 480 d z t) permission (manager_and_clerk 2) ≡ 16
+  pub weightless_with_3 : (d z t : ℕ) → out_of_range (at 480 d z t) ≡ false →
+      decision_of shop (at 480 d z t) permission (manager_and_clerk 3) ≡ 16
   -- 8. "User 0 twice: 14; user 2 as buyer: 15.", in every context in range
   pub twice : (c : Context) → out_of_range c ≡ false → decision_of shop c permission user0_twice ≡ 14
   pub may_not_act : (c : Context) → out_of_range c ≡ false → decision_of shop c permission user2_as_buyer ≡ 15

@@ -24,32 +24,32 @@ unfoldable pub side_by_side : List ℕ
 unfolding shop
 side_by_side = set shop 2 manager
 
--- the shop with the clerk's policy of type 0 (byte 73) and in a context without a clause (byte 74)
+-- the shop with the clerk's policy of type 0 (byte 89) and in a context without a clause (byte 90)
 unfoldable pub idle : List ℕ
 unfolding shop
-idle = set (set shop 73 0) 74 3
+idle = set (set shop 89 0) 90 3
 
--- the shop with the clerk's policy given to the buyer (byte 70), behind the buyer's own, which always counts
+-- the shop with the clerk's policy given to the buyer (byte 86), behind the buyer's own, which always counts
 unfoldable pub behind : List ℕ
 unfolding shop
-behind = set shop 70 buyer
+behind = set shop 86 buyer
 
--- the same with the weight 3 (byte 72)
+-- the same with the weight 3 (byte 88)
 unfoldable pub heavier_behind : List ℕ
 unfolding behind
-heavier_behind = set behind 72 3
+heavier_behind = set behind 88 3
 
 -- where policy i gets the weight w, the bound for one of each is n
 pub record BoundAs (b : List ℕ) (i w n : ℕ) : Type 0 where
   pub accepted : refusal_of (with_weight b i w) ≡ 0
   pub answer : bound_answer b i w one_of_each ≡ record { refusal = 0; count = n }
 
--- and by the rules, at minute 600, on every day and in every zone, the two sums differ by m
+-- and by the rules, at minute 600, on every day, in every zone and on every date, the two sums differ by m
 pub record MovedAs (rules b : List ℕ) (i w n m : ℕ) : Type 0 where
   pub bound : BoundAs b i w n
-  pub sums : (d z : ℕ) →
-      distance (sum_by rules b (at 600 d z) permission one_of_each)
-      (sum_by rules (with_weight b i w) (at 600 d z) permission one_of_each)
+  pub sums : (d z t : ℕ) →
+      distance (sum_by rules b (at 600 d z t) permission one_of_each)
+      (sum_by rules (with_weight b i w) (at 600 d z t) permission one_of_each)
       ≡ m
 
 -- without a list they differ by n

@@ -8,20 +8,23 @@ unfoldable pub shop : List ℕ
 shop =
     -- H, from 0: 0 over 1, 1 over 2
     0 ∷ 1 ∷ 1 ∷ 2 ∷
-    -- U, from 4: users 0 to 3: 3, 5, 7, 7
-    3 ∷ 0 ∷ 0 ∷ 0 ∷ 5 ∷ 0 ∷ 0 ∷ 0 ∷ 7 ∷ 0 ∷ 0 ∷ 0 ∷ 7 ∷ 0 ∷ 0 ∷ 0 ∷
-    -- P, from 20: one permission (1, 1)
+    -- U, from 4: users 0 to 3: 3, 5, 7, 7, each with days 0 and 65535
+    3 ∷ 0 ∷ 0 ∷ 0 ∷ 0 ∷ 0 ∷ 255 ∷ 255 ∷
+    5 ∷ 0 ∷ 0 ∷ 0 ∷ 0 ∷ 0 ∷ 255 ∷ 255 ∷
+    7 ∷ 0 ∷ 0 ∷ 0 ∷ 0 ∷ 0 ∷ 255 ∷ 255 ∷
+    7 ∷ 0 ∷ 0 ∷ 0 ∷ 0 ∷ 0 ∷ 255 ∷ 255 ∷
+    -- P, from 36: one permission (1, 1)
     1 ∷ 1 ∷
-    -- K, from 22: its one clause, of two conditions: attribute 0 >= 2 and attribute 1 >= 5
+    -- K, from 38: its one clause, of two conditions: attribute 0 >= 2 and attribute 1 >= 5
     0 ∷ 2 ∷ 0 ∷ 2 ∷ 2 ∷ 1 ∷ 2 ∷ 5 ∷ 0 ∷ 0 ∷ 0 ∷ 0 ∷ 0 ∷ 0 ∷ 0 ∷ 0 ∷
-    -- C, from 38: context 0, two conditions: minute >= 540 (28 + 256 * 2) and minute <= 1020 (252 + 256 * 3)
+    -- C, from 54: context 0, two conditions: minute >= 540 (28 + 256 * 2) and minute <= 1020 (252 + 256 * 3)
     0 ∷ 2 ∷ 0 ∷ 2 ∷ 28 ∷ 2 ∷ 0 ∷ 3 ∷ 252 ∷ 3 ∷ 0 ∷ 0 ∷ 0 ∷ 0 ∷ 0 ∷ 0 ∷
-    -- A, from 54: manager weight 3, type 0, none; buyer 1, type 1, none; clerk 1, type 1, context 0
+    -- A, from 70: manager weight 3, type 0, none; buyer 1, type 1, none; clerk 1, type 1, context 0
     0 ∷ 0 ∷ 3 ∷ 0 ∷ 255 ∷ 0 ∷ 0 ∷ 0 ∷ 1 ∷ 0 ∷ 1 ∷ 1 ∷ 255 ∷ 0 ∷ 0 ∷ 0 ∷ 2 ∷ 0 ∷ 1 ∷ 1 ∷ 0 ∷ 0 ∷ 0 ∷ 0 ∷
-    -- the trailer, from 78: offset and record count of H, U, P, K, C, A, X
-    0 ∷ 0 ∷ 2 ∷ 0 ∷ 4 ∷ 0 ∷ 4 ∷ 0 ∷ 20 ∷ 0 ∷ 1 ∷ 0 ∷ 22 ∷ 0 ∷ 1 ∷ 0 ∷ 38 ∷ 0 ∷ 1 ∷ 0 ∷ 54 ∷ 0 ∷ 3 ∷ 0 ∷ 78 ∷ 0 ∷ 0 ∷ 0 ∷
-    -- R, three zero bytes, LCAP
-    3 ∷ 0 ∷ 0 ∷ 0 ∷ 76 ∷ 67 ∷ 65 ∷ 80 ∷ []
+    -- the trailer, from 94: offset and record count of H, U, P, K, C, A, X
+    0 ∷ 0 ∷ 2 ∷ 0 ∷ 4 ∷ 0 ∷ 4 ∷ 0 ∷ 36 ∷ 0 ∷ 1 ∷ 0 ∷ 38 ∷ 0 ∷ 1 ∷ 0 ∷ 54 ∷ 0 ∷ 1 ∷ 0 ∷ 70 ∷ 0 ∷ 3 ∷ 0 ∷ 94 ∷ 0 ∷ 0 ∷ 0 ∷
+    -- R, three zero bytes, LCAQ
+    3 ∷ 0 ∷ 0 ∷ 0 ∷ 76 ∷ 67 ∷ 65 ∷ 81 ∷ []
 
 -- its roles
 abbrev pub manager : ℕ
@@ -37,9 +40,9 @@ clerk = 2
 abbrev pub permission : ℕ
 permission = 0
 
--- the context of minute m, day d and zone z
-abbrev pub at : ℕ → ℕ → ℕ → Context
-at m d z = record { minute = m; day = d; zone = z }
+-- the context of minute m, day d, zone z and date t
+abbrev pub at : ℕ → ℕ → ℕ → ℕ → Context
+at m d z t = record { minute = m; day = d; zone = z; date = t }
 
 -- groups: user and role acted in of each entry
 abbrev pub manager_alone : List ℕ
@@ -58,10 +61,10 @@ user0_twice = 0 ∷ manager ∷ 0 ∷ manager ∷ []
 abbrev pub user2_as_buyer : List ℕ
 user2_as_buyer = 2 ∷ buyer ∷ []
 
--- the shop with x, below 256, as the parameter of user 3, whose 4 bytes stand from 16
+-- the shop with x, below 256, as the parameter of user 3, whose 4 bytes stand from 28
 unfoldable pub with_parameter : ℕ → List ℕ
 unfolding shop
-with_parameter x = set shop 16 x
+with_parameter x = set shop 28 x
 
 -- a C record of context number n with one condition: the minute stands to v as operator o says
 abbrev on_minute : ℕ → ℕ → ℕ → List ℕ
@@ -85,15 +88,15 @@ unfoldable pub edges : List ℕ
 unfolding shop
 edges =
     -- H, U, P and K of the shop
-    part_of shop 0 38
-    -- C, from 38
+    part_of shop 0 54
+    -- C, from 54
     ++ on_minute up_to600 3 600
     ++ on_minute from600 2 600
     ++ on_minute before600 1 600
     ++ on_minute before0 1 0
-    -- A of the shop, from 102
-    ++ part_of shop 54 24
-    -- the trailer, from 126
-    ++ (0 ∷ 0 ∷ 2 ∷ 0 ∷ 4 ∷ 0 ∷ 4 ∷ 0 ∷ 20 ∷ 0 ∷ 1 ∷ 0 ∷ 22 ∷ 0 ∷ 1 ∷ 0 ∷
-    38 ∷ 0 ∷ 4 ∷ 0 ∷ 102 ∷ 0 ∷ 3 ∷ 0 ∷ 126 ∷ 0 ∷ 0 ∷ 0 ∷
-    3 ∷ 0 ∷ 0 ∷ 0 ∷ 76 ∷ 67 ∷ 65 ∷ 80 ∷ [])
+    -- A of the shop, from 118
+    ++ part_of shop 70 24
+    -- the trailer, from 142
+    ++ (0 ∷ 0 ∷ 2 ∷ 0 ∷ 4 ∷ 0 ∷ 4 ∷ 0 ∷ 36 ∷ 0 ∷ 1 ∷ 0 ∷ 38 ∷ 0 ∷ 1 ∷ 0 ∷
+    54 ∷ 0 ∷ 4 ∷ 0 ∷ 118 ∷ 0 ∷ 3 ∷ 0 ∷ 142 ∷ 0 ∷ 0 ∷ 0 ∷
+    3 ∷ 0 ∷ 0 ∷ 0 ∷ 76 ∷ 67 ∷ 65 ∷ 81 ∷ [])
