@@ -15,6 +15,9 @@
 #include "release.h"
 #include "small_shop.h"
 
+/* The morning's date. */
+#define DATE 900
+
 /* An answer in words: done, or the refusal. */
 static void print_answer(const char *done, uint32_t answer) {
     if (answer == RELEASE_DONE) {
@@ -27,7 +30,7 @@ static void print_answer(const char *done, uint32_t answer) {
 static void ask(uint32_t minute, const uint8_t *sheet) {
     printf(", release ");
     print_answer("granted", release_sheet_ask(small_shop, sizeof small_shop,
-                                              minute, 0, 0, sheet));
+                                              minute, 0, 0, DATE, sheet));
     printf("\n");
 }
 

@@ -1,7 +1,7 @@
 /*
  * Which policy overrides which: an editor has left two policies of the manager in
  * the small shop. Prints the conflict, and then who can release permission 0 at
- * minute 480 without a resolution list and by some lists.
+ * minute 480 of date 900 without a resolution list and by some lists.
  *
  *     tools/build
  *     cc -std=c11 -Iinclude examples/overrides.c target/staticlib/libexports.a -o target/overrides
@@ -15,8 +15,8 @@
 #include "small_shop.h"
 
 /* Where the shop's policies and its trailer start. */
-#define POLICIES 54
-#define TRAILER 78
+#define POLICIES 70
+#define TRAILER 94
 
 /* The manager's second policy: weight 1, type 0, no context, rank 0, day 1. */
 static const uint8_t second[] = {0, 0, 1, 0, 255, 0, 1, 0};
@@ -62,7 +62,7 @@ static void print_group(const char *by, uint64_t answer, const uint8_t *part) {
 static void print_group_by(const char *by, const uint8_t *list, size_t list_len) {
     uint8_t part[RELEASE_PERMISSION_BYTES];
     uint64_t answer =
-        release_report_by(base, sizeof base, 480, 0, 0, list, list_len, part, sizeof part);
+        release_report_by(base, sizeof base, 480, 0, 0, 900, list, list_len, part, sizeof part);
     print_group(by, answer, part);
 }
 
@@ -76,7 +76,7 @@ int main(void) {
     edit_shop();
     print_conflicts();
     print_group("table order",
-                release_report(base, sizeof base, 480, 0, 0, part, sizeof part), part);
+                release_report(base, sizeof base, 480, 0, 0, 900, part, sizeof part), part);
     print_group_by("later day", newest, sizeof newest);
     print_group_by("larger rank", highest, sizeof highest);
     print_group_by("smaller weight", lightest, sizeof lightest);

@@ -1,7 +1,7 @@
 /*
- * Prints the small shop's release report for minute 480, day 0 and zone 0: for
- * each permission its number, the number of approvers and a smallest group as
- * user/role; last, how many permissions can be released.
+ * Prints the small shop's release report for minute 480, day 0, zone 0 and date
+ * 900: for each permission its number, the number of approvers and a smallest
+ * group as user/role; last, how many permissions can be released.
  *
  *     tools/build
  *     cc -std=c11 -Iinclude examples/shop.c target/staticlib/libexports.a -o target/shop
@@ -29,7 +29,7 @@ int main(void) {
     uint8_t report[RELEASE_LONGEST_REPORT];
     memset(report, 255, sizeof report);
 
-    uint64_t answer = release_report(small_shop, sizeof small_shop, 480, 0, 0,
+    uint64_t answer = release_report(small_shop, sizeof small_shop, 480, 0, 0, 900,
                                      report, sizeof report);
     uint32_t refusal = release_answer_refusal(answer);
     if (refusal != RELEASE_DONE) {

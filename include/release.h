@@ -8,11 +8,22 @@
  *
  * Answers. Each call takes any bytes whatever and gives one answer: 0 (granted
  * or done), or the number of the first refusal that applies, in the order of
- * enum release_refusal but for 22, which comes after 9. A refused call writes
- * nothing, with one exception: a refused opening gives the unsigned sheet for
- * permission 255 in its 14 bytes. Some answers carry a number beside the refusal;
- * it is 0 of every refusal but 18 of release_conflicts and 5 of
- * release_parameter. An answer depends on the arguments alone.
+ * enum release_refusal but for 22, which comes after 9, and 24, which comes after
+ * 15. A refused call writes nothing, with one exception: a refused opening gives
+ * the unsigned sheet for permission 255 in its 14 bytes. Some answers carry a
+ * number beside the refusal; it is 0 of every refusal but 18 of release_conflicts
+ * and 5 of release_parameter. An answer depends on the arguments alone.
+ *
+ * Contexts. Five calls take a context: a minute (0 to 1439), a day of the week (0
+ * to 6), a zone (0 to 255) and a date (0 to 65535), in this order, each a number of
+ * its own. The date counts days as the first and last days of the base's users do.
+ * Which policies are active depends on minute, day and zone; who may approve
+ * depends on the date.
+ *
+ * Upgrading. A base whose users have no days is refused by 2, for its letters. The
+ * date stands behind the zone in each call with a context; there is no call without
+ * one, so that a compiler shows every place that lacks it. A program compiled with
+ * an older header has to be compiled anew.
  *
  * Pointers. A slice passes as a pointer and its length in bytes.
  * - The pointer is valid for that length: base, list and group to read, out to
@@ -45,9 +56,13 @@
 #include <stddef.h>
 #include <stdint.h>
 
-/* A policy base has 36 to 2,364 bytes. */
+/* A policy base has 36 to 2,460 bytes. */
 #define RELEASE_SHORTEST_BASE 36
-#define RELEASE_LONGEST_BASE 2364
+#define RELEASE_LONGEST_BASE 2460
+
+/* A user has 8 bytes in a base: the parameter (4), the first day and the last (2
+   each), all little-endian. Both days are among the user's days. */
+#define RELEASE_USER_BYTES 8
 
 /* A group has 1 to 6 entries of 2 bytes: user, role acted in. A user may act in
    a role that the user holds, or that is junior to one that the user holds. */
@@ -86,24 +101,26 @@ enum release_rule {
 };
 
 /* The refusals; each call's comment says which it can give. They are checked in
-   rising order, but for 22, which comes after 9: for signing the order is 1 to 9,
-   13, 14, 15, 20, for a bound 1 to 9, 12 to 15, 21, for a decision by a list 1 to
-   9, 22, 10, 11, 12 to 17, for a report by a list 1 to 9, 22, 11, 19. The tables
-   of a base are H (hierarchy), U (users), P (permissions), K (group clauses), C
-   (context clauses), A (policies) and X (exclusions); R is the number of roles. */
+   rising order, but for 22, which comes after 9, and 24, which comes after 15: for
+   a decision the order is 1 to 15, 24, 16, 17, for one by a list 1 to 9, 22, 10 to
+   15, 24, 16, 17, for a report by a list 1 to 9, 22, 11, 19, for signing 1 to 9,
+   13, 14, 15, 20, for a bound 1 to 9, 12 to 15, 21. The tables of a base are H
+   (hierarchy), U (users), P (permissions), K (group clauses), C (context clauses),
+   A (policies) and X (exclusions); R is the number of roles. */
 enum release_refusal {
     /* No refusal: granted or done. */
     RELEASE_DONE = 0,
-    /* The base is shorter than 36 or longer than 2,364 bytes. */
+    /* The base is shorter than 36 or longer than 2,460 bytes. */
     RELEASE_REFUSAL_LENGTH = 1,
-    /* The base's last four bytes aren't LCAP. */
+    /* The base's last four bytes aren't LCAQ. */
     RELEASE_REFUSAL_LETTERS = 2,
     /* The rest of the trailer breaks its rules, a count is above its limit,
        or the tables don't fill the bytes before it in order. */
     RELEASE_REFUSAL_TRAILER = 3,
     /* An H record has senior not below junior, or junior not below R. */
     RELEASE_REFUSAL_HIERARCHY = 4,
-    /* A user's parameter is no product of different codes of roles below R. */
+    /* A user's parameter is no product of different codes of roles below R, or
+       the first day is above the last. */
     RELEASE_REFUSAL_USERS = 5,
     /* A K record breaks its rules or names a permission that isn't in P. */
     RELEASE_REFUSAL_GROUP_CLAUSES = 6,
@@ -116,7 +133,7 @@ enum release_refusal {
     RELEASE_REFUSAL_EXCLUSIONS = 9,
     /* The permission isn't in P. */
     RELEASE_REFUSAL_NO_PERMISSION = 10,
-    /* Minute, day or zone is out of range. */
+    /* Minute, day, zone or date is out of range. */
     RELEASE_REFUSAL_CONTEXT = 11,
     /* The group's length is 0, odd or above 12. */
     RELEASE_REFUSAL_GROUP_LENGTH = 12,
@@ -143,7 +160,9 @@ enum release_refusal {
        another byte. */
     RELEASE_REFUSAL_RESOLUTION = 22,
     /* The user has no entry on the sheet. */
-    RELEASE_REFUSAL_NO_SIGNATURE = 23
+    RELEASE_REFUSAL_NO_SIGNATURE = 23,
+    /* The date is before the first or after the last day of an entry's user. */
+    RELEASE_REFUSAL_OUT_OF_DATE = 24
 };
 
 #ifdef __cplusplus
@@ -157,20 +176,22 @@ uint32_t release_check(const uint8_t *base, size_t base_len);
 
 /*
  * The decision for one group: 0 if it is granted the permission, or the first
- * of refusals 1 to 17 that applies. The permission is its number in P, from 0
- * on. The context is a minute (0 to 1439), a day (0 to 6) and a zone (0 to
- * 255). Numbers aren't cut: permission 256 is refused by 10, zone 256 by 11.
- * The group is its entries' bytes, in any order.
+ * of refusals 1 to 15, 24, 16 and 17 that applies. The permission is its number
+ * in P, from 0 on. The context is a minute (0 to 1439), a day (0 to 6), a zone (0
+ * to 255) and a date (0 to 65535). Numbers aren't cut: permission 256 is refused
+ * by 10, zone 256 and date 65536 by 11. The group is its entries' bytes, in any
+ * order.
  */
 uint32_t release_decide(const uint8_t *base, size_t base_len,
                         uint32_t permission,
                         uint32_t minute, uint32_t day, uint32_t zone,
+                        uint32_t date,
                         const uint8_t *group, size_t group_len);
 
 /*
  * The decision by a resolution list: 0 if the group is granted the permission,
- * or the first of refusals 1 to 9, 22, 10, 11 and 12 to 17 that applies. An empty
- * list is refused by 22; without a list it is release_decide.
+ * or the first of refusals 1 to 9, 22, 10 to 15, 24, 16 and 17 that applies. An
+ * empty list is refused by 22; without a list it is release_decide.
  *
  * Where several policies of one role for the permission are active, the one that
  * no other of them goes before counts for the role, in place of the first in A;
@@ -180,6 +201,7 @@ uint32_t release_decide(const uint8_t *base, size_t base_len,
 uint32_t release_decide_by(const uint8_t *base, size_t base_len,
                            uint32_t permission,
                            uint32_t minute, uint32_t day, uint32_t zone,
+                           uint32_t date,
                            const uint8_t *list, size_t list_len,
                            const uint8_t *group, size_t group_len);
 
@@ -191,8 +213,9 @@ uint32_t release_decide_by(const uint8_t *base, size_t base_len,
  * Of 0, the first 13 bytes of out are permission 0's, the next 13 permission
  * 1's and so on: the number k of approvers (0 to 6), then the k entries of a
  * group that is granted, by rising user, and 255 in every byte left. No group
- * with fewer entries is granted; with k = 0 no group is. Later bytes of out
- * keep their contents.
+ * with fewer entries is granted; with k = 0 no group is. Granting is that of
+ * release_decide in the same context, so that only users whose days include the
+ * date are considered. Later bytes of out keep their contents.
  *
  * A buffer of RELEASE_LONGEST_REPORT bytes suffices for every base. If it was
  * filled with 255, a part that was written is told by its first byte, which is
@@ -200,6 +223,7 @@ uint32_t release_decide_by(const uint8_t *base, size_t base_len,
  */
 uint64_t release_report(const uint8_t *base, size_t base_len,
                         uint32_t minute, uint32_t day, uint32_t zone,
+                        uint32_t date,
                         uint8_t *out, size_t out_len);
 
 /*
@@ -209,10 +233,11 @@ uint64_t release_report(const uint8_t *base, size_t base_len,
  * refused by 22; without a list it is release_report.
  *
  * The bytes of out are written as by release_report, for the groups that
- * release_decide_by grants with the same list.
+ * release_decide_by grants with the same context and list.
  */
 uint64_t release_report_by(const uint8_t *base, size_t base_len,
                            uint32_t minute, uint32_t day, uint32_t zone,
+                           uint32_t date,
                            const uint8_t *list, size_t list_len,
                            uint8_t *out, size_t out_len);
 
@@ -229,7 +254,7 @@ uint64_t release_report_by(const uint8_t *base, size_t base_len,
  *   role is covered by both, whatever their contexts; a policy covers its role
  *   and, if its type is 1, that role's seniors;
  * - kind 3: a user, and an exclusion whose two roles that user holds, by the
- *   parameter alone.
+ *   parameter alone, whatever the user's days.
  * First and second are the records' numbers in A, of kind 3 in U and X. Later
  * bytes of out keep their contents.
  */
@@ -243,7 +268,8 @@ uint64_t release_conflicts(const uint8_t *base, size_t base_len,
  *
  * The policy is its number in A, from 0 on; the new weight is 1 to 5. Numbers
  * aren't cut: policy 256 is refused by 21, and so is weight 256. The group is
- * its entries' bytes, in any order; 12 to 15 are those of release_decide.
+ * its entries' bytes, in any order; 12 to 15 are those of release_decide. The
+ * users' days play no part.
  *
  * Of 0, the base with that weight in place of the old one passes the check, and
  * for every permission and context, by every resolution list and without one,
@@ -273,7 +299,8 @@ uint64_t release_bound(const uint8_t *base, size_t base_len,
  * as 8, and parameter 259 isn't 3. With 0 roles parameter 1 passes, every other
  * gets 5, and none is tried. A base has 1 to 8 roles; release_check gives 5, after
  * 1 to 4, where this call, with the base's number of roles, gives it for the
- * parameter of one of the users.
+ * parameter of one of the users, or where a user's first day is above the last,
+ * of which this call knows nothing.
  */
 uint64_t release_parameter(uint32_t parameter, uint32_t roles);
 
@@ -295,7 +322,9 @@ uint32_t release_sheet_open(const uint8_t *base, size_t base_len,
  * entry alone; it gets 14 if its user is on the sheet, in whatever role. A full
  * sheet gets them before 20. Numbers aren't cut: user 256 is refused by 13. The
  * sheet's permission isn't looked at, nor are the entries that it holds looked
- * at again: asking judges all of them by the base that it is handed.
+ * at again: asking judges all of them by the base that it is handed. Signing
+ * knows no date: a signature from out of its user's days is taken, and asking
+ * gives 24.
  *
  * Of 0, the entry stands behind those that the sheet held, its number of
  * entries is one more, and every other byte is as it was. Of a refusal every
@@ -321,13 +350,16 @@ uint32_t release_sheet_sign(const uint8_t *base, size_t base_len,
 uint32_t release_sheet_withdraw(uint32_t user, uint8_t *sheet);
 
 /*
- * Asks a sheet: the answer of release_decide for its permission and the group
- * of the entries that it holds, in their order. So an unsigned sheet is refused
- * by 12, after 1 to 11, and the sheet of a refused opening by 10, after 1 to 9.
- * No byte is written.
+ * Asks a sheet: 0, or the first of refusals 1 to 15, 24, 16 and 17 that applies,
+ * which is the answer of release_decide for its permission, the context and the
+ * group of the entries that it holds, in their order. So an unsigned sheet is
+ * refused by 12, after 1 to 11, the sheet of a refused opening by 10, after 1 to
+ * 9, and one with an entry whose user's days don't include the date by 24, after
+ * 1 to 15, though its signing was taken. No byte is written.
  */
 uint32_t release_sheet_ask(const uint8_t *base, size_t base_len,
                            uint32_t minute, uint32_t day, uint32_t zone,
+                           uint32_t date,
                            const uint8_t *sheet);
 
 /* The refusal in an answer of release_report, release_report_by,

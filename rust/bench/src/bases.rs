@@ -5,6 +5,9 @@ use compare::builder::*;
 use compare::products::product;
 use twin::worst::LAST_FAILS;
 
+/// The date of all cases.
+pub const DATE: u16 = 900;
+
 /// A shop of a usual size: a manager, buyers, deputies, clerks and trainees
 /// (roles 0 to 4) and eight kinds of fields; by day, at weekends and in the
 /// back zones other weights hold.
@@ -76,7 +79,7 @@ fn typical_policies() -> Vec<Policy> {
         .to_vec()
 }
 
-/// The longest base, 2,364 bytes. Every user has every role, every clause has
+/// The longest base, 2,460 bytes. Every user has every role, every clause has
 /// all its conditions, and of those of permission 0 only the last fails.
 pub fn full_base() -> BaseBuilder {
     let pairs = (1..8).flat_map(|junior| (0..junior).map(move |senior| (senior, junior)));
@@ -154,6 +157,21 @@ pub fn refused(mut base: BaseBuilder, user: usize) -> BaseBuilder {
     base
 }
 
+/// The same with a first day above the last in the last user alone.
+pub fn refused_by_days(mut base: BaseBuilder) -> BaseBuilder {
+    let last = base.users.last_mut().expect("there are users");
+    (last.first_day, last.last_day) = (LAST_DAY, LAST_DAY - 1);
+    base
+}
+
+/// The base where the days of each n-th user end just before the date.
+pub fn out_of_date(mut base: BaseBuilder, n: usize) -> BaseBuilder {
+    for user in base.users.iter_mut().skip(n - 1).step_by(n) {
+        user.last_day = DATE - 1;
+    }
+    base
+}
+
 /// As many conflicts as a base can have, 2,688. Half the policies are for each
 /// of two permissions that exclude each other, all for one role and with as
 /// different weights and types as there are; the other exclusions are ones of
@@ -193,10 +211,10 @@ fn edges(pairs: &[(u8, u8)]) -> Vec<Edge> {
         .collect()
 }
 
-/// Users by the sets of their roles.
+/// Users of all days by the sets of their roles.
 pub fn users(sets: &[u8]) -> Vec<User> {
     let parameters = sets.iter().map(|&set| product(set));
-    parameters.map(|parameter| User { parameter }).collect()
+    parameters.map(User::always).collect()
 }
 
 #[cfg(test)]
@@ -217,11 +235,30 @@ mod tests {
             many_contexts(),
         ];
         for base in bases {
-            assert_eq!(base.bytes().len(), 2_364);
+            assert_eq!(base.bytes().len(), 2_460);
             assert_eq!(agreed_check(&base.bytes()), 0);
         }
         assert_eq!(agreed_check(&typical_shop().bytes()), 0);
         assert_eq!(agreed_check(&users_alone(low_roles()).bytes()), 0);
+    }
+
+    #[test]
+    fn days_are_refused_in_the_last_user_alone() {
+        let mut base = refused_by_days(users_alone(low_roles()));
+        assert_eq!(agreed_check(&base.bytes()), 5);
+        base.users.pop();
+        assert_eq!(agreed_check(&base.bytes()), 0);
+    }
+
+    #[test]
+    fn each_nth_user_is_out_of_date() {
+        for n in [2, 6] {
+            let base = out_of_date(full_base(), n);
+            assert_eq!(agreed_check(&base.bytes()), 0);
+            for (user, number) in base.users.iter().zip(1..) {
+                assert_eq!(user.last_day < DATE, number % n == 0);
+            }
+        }
     }
 
     #[test]

@@ -69,8 +69,9 @@ pub type Buffer = [u8; 3 * 2_784];
 impl Case {
     /// What program `release_list` reads: the context and the base.
     pub fn input(&self) -> Vec<u8> {
-        let [low, high] = (self.at.minute as u16).to_le_bytes();
-        [&[low, high, 0, 0], &self.base[..]].concat()
+        let minute = (self.at.minute as u16).to_le_bytes();
+        let date = (self.at.date as u16).to_le_bytes();
+        [&minute, &[0, 0], &date, &self.base[..]].concat()
     }
 
     /// The answer: the refusal, and 256 times the count.
@@ -184,6 +185,12 @@ pub fn cases() -> Vec<Case> {
         case("decide typical shop", Call::Decide, &typical, &[0, 0, 6, 3]),
         case("decide full base", Call::Decide, &full, &six),
         case("decide from above", Call::Decide, &above, &six_below),
+        case(
+            "decide out of date",
+            Call::Decide,
+            &out_of_date(full_base(), six.len() / 2).bytes(),
+            &six,
+        ),
         case("open small shop", Call::Open, &small, &[]),
         case("open typical shop", Call::Open, &typical, &[]),
         case("sign small shop", Call::Sign(2, 2), &small, &[0, 0]),
@@ -213,6 +220,10 @@ pub fn cases() -> Vec<Case> {
         report("report typical shop", &typical),
         report("report full base", &full),
         report("report from above", &above),
+        report(
+            "report half out of date",
+            &out_of_date(worst::by_numbers(), 2).bytes(),
+        ),
     ];
     cases.extend(of_users());
     cases.extend(by_list());
@@ -243,6 +254,7 @@ fn of_users() -> Vec<Case> {
         ("refused first", refused(users_alone(low_roles()), 0)),
         ("refused last", refused(users_alone(low_roles()), 23)),
         ("refused behind all", refused(users_alone([255; 24]), 23)),
+        ("refused by days", refused_by_days(users_alone(low_roles()))),
     ];
     let checks = checks
         .iter()
@@ -293,7 +305,10 @@ fn case(name: &str, call: Call, base: &[u8], group: &[u8]) -> Case {
         name: name.to_string(),
         call,
         base: base.to_vec(),
-        at: at_minute(600),
+        at: Context {
+            date: DATE.into(),
+            ..at_minute(600)
+        },
         group: group.to_vec(),
         sheet: holding(group),
     }
@@ -314,6 +329,7 @@ mod tests {
     fn refusal(case: &Case) -> u64 {
         let shop = case.name.ends_with("shop");
         match case.call {
+            Call::Decide if case.name.ends_with("out of date") => 24,
             Call::Decide | Call::DecideBy | Call::Ask if !shop => 17,
             Call::Withdraw(6) => 23,
             Call::Parameter(0, _) => 5,

@@ -1,5 +1,5 @@
 //! Bases made to cost most where a report goes by multisets of roles, besides
-//! those of `twin::worst`. All have 2,364 bytes but where users are fewer.
+//! those of `twin::worst`. All have 2,460 bytes but where users are fewer.
 //!
 //! What a report costs depends on how many multisets, of how many roles, are
 //! looked through for a clause: it is looked for with n entries as long as n
@@ -201,7 +201,7 @@ mod tests {
     #[test]
     fn they_are_as_long_as_can_be_but_for_users() {
         for (_, base) in all() {
-            assert_eq!(base.bytes().len(), 2_364 - 4 * (24 - base.users.len()));
+            assert_eq!(base.bytes().len(), 2_460 - 8 * (24 - base.users.len()));
         }
     }
 }

@@ -73,14 +73,11 @@ pub fn gains(base: &[u8], at: Context, numbers: &[u8]) -> Vec<Gain> {
 mod tests {
     use super::*;
     use crate::builder::*;
-    use crate::capped::capped_base;
-    use crate::clashing::clashing_base;
-    use crate::lively::{full_base, heavy_base, lively_base};
+    use crate::kinds::KINDS;
+    use crate::lively::lively_base;
     use crate::questions::at_minute;
     use crate::random::Random;
     use crate::shop::small_shop;
-    use crate::sparse::sparse_base;
-    use crate::valid::{random_base, Size};
 
     #[test]
     fn the_small_shops_users_act_below_their_roles() {
@@ -103,7 +100,7 @@ mod tests {
                 junior: role + 1,
             })
             .collect();
-        base.users = vec![User { parameter: 3 }];
+        base.users = vec![User::always(3)];
         let base = Base::read(&base.bytes()).expect("the base passes");
         for role in 0..8 {
             assert_eq!(records_down(&base, [0, role]), Some(role));
@@ -136,22 +133,10 @@ mod tests {
         })
     }
 
-    type Make = fn(&mut Random) -> BaseBuilder;
-
     #[test]
     fn users_act_far_below_in_bases_of_every_kind() {
-        let kinds: [(&str, Make); 8] = [
-            ("small", |random| random_base(random, Size::Small)),
-            ("any", |random| random_base(random, Size::Any)),
-            ("lively", |random| lively_base(random, 24)),
-            ("full", full_base),
-            ("heavy", heavy_base),
-            ("sparse", |random| sparse_base(random, 24)),
-            ("capped", |random| capped_base(random, 6)),
-            ("clashing", clashing_base),
-        ];
         let mut random = Random::new(29);
-        for (name, make) in kinds {
+        for (name, make) in KINDS {
             let bases = std::iter::repeat_with(|| make(&mut random).bytes()).take(300);
             let far = bases.filter(|bytes| {
                 let base = Base::read(bytes).expect("the base passes");

@@ -2,13 +2,19 @@
 
 use std::ops::Range;
 
-pub const LETTERS: [u8; 4] = *b"LCAP";
+pub const LETTERS: [u8; 4] = *b"LCAQ";
+
+/// Those of the form that bases had before users had days.
+pub const OLD_LETTERS: [u8; 4] = *b"LCAP";
 
 /// At most so many records, in table order.
 pub const LIMITS: [usize; 7] = [28, 24, 16, 64, 32, 64, 32];
 
 /// The identity codes of roles 0 to 7.
 pub const CODES: [u32; 8] = [3, 5, 7, 11, 13, 17, 19, 23];
+
+/// The last day that a user can have, and the last date.
+pub const LAST_DAY: u16 = 65_535;
 
 /// A policy's context number for none.
 pub const NO_CONTEXT: u8 = 255;
@@ -32,6 +38,10 @@ impl Image {
     }
 
     fn short(&mut self, value: u16) {
+        self.put(value.to_le_bytes());
+    }
+
+    fn long(&mut self, value: u32) {
         self.put(value.to_le_bytes());
     }
 
@@ -68,11 +78,39 @@ impl Record for Edge {
 #[derive(Clone)]
 pub struct User {
     pub parameter: u32,
+    pub first_day: u16,
+    pub last_day: u16,
+}
+
+impl User {
+    /// A user of all days.
+    pub fn always(parameter: u32) -> User {
+        User {
+            parameter,
+            first_day: 0,
+            last_day: LAST_DAY,
+        }
+    }
+
+    pub fn set_days(&mut self, first: u16, last: u16) {
+        (self.first_day, self.last_day) = (first, last);
+    }
 }
 
 impl Record for User {
     fn write(&self, image: &mut Image) {
-        image.put(self.parameter.to_le_bytes());
+        image.long(self.parameter);
+        image.short(self.first_day);
+        image.short(self.last_day);
+    }
+}
+
+/// A U record of the old form, without days.
+struct OldUser(u32);
+
+impl Record for OldUser {
+    fn write(&self, image: &mut Image) {
+        image.long(self.0);
     }
 }
 
@@ -306,10 +344,23 @@ impl BaseBuilder {
     }
 
     fn image_with(&self, change: impl FnOnce(&mut Trailer)) -> Image {
+        self.image_of(&self.users, change)
+    }
+
+    /// The bytes in the form before users had days, with these letters: of a user
+    /// the parameter alone, and a trailer that fits.
+    pub fn old_bytes(&self, letters: [u8; 4]) -> Vec<u8> {
+        let users = self.users.iter();
+        let users: Vec<OldUser> = users.map(|user| OldUser(user.parameter)).collect();
+        let image = self.image_of(&users, |trailer| trailer.letters = letters);
+        image.bytes
+    }
+
+    fn image_of<U: Record>(&self, users: &[U], change: impl FnOnce(&mut Trailer)) -> Image {
         let mut image = Image::default();
         let places = [
             image.table(&self.hierarchy),
-            image.table(&self.users),
+            image.table(users),
             image.table(&self.permissions),
             image.table(&self.group_clauses),
             image.table(&self.context_clauses),

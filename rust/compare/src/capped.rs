@@ -3,6 +3,7 @@
 //! the first roles alone, and with weights that are equal, even or any.
 
 use crate::builder::*;
+use crate::days::give_days;
 use crate::random::Random;
 use crate::valid::{rising_pair, times};
 
@@ -15,6 +16,7 @@ pub fn capped_base(random: &mut Random, roles: u8) -> BaseBuilder {
     let one_in = random.pick(&[1, 2, 3, 6]);
     let held = random.pick(&[roles, roles, roles.div_ceil(2)]);
     base.users = times(users, || user(random, held, one_in));
+    give_days(random, &mut base.users);
     if roles > 1 {
         base.hierarchy = times(random.pick(&[0, 0, 1, 3, 12]), || {
             let (senior, junior) = rising_pair(random, roles);
@@ -35,7 +37,7 @@ pub fn capped_base(random: &mut Random, roles: u8) -> BaseBuilder {
 fn user(random: &mut Random, roles: u8, one_in: usize) -> User {
     let codes = CODES[..usize::from(roles)].iter();
     let parameter = codes.filter(|_| random.chance(one_in)).product();
-    User { parameter }
+    User::always(parameter)
 }
 
 /// A policy for most roles, of equal, even or any weights.

@@ -4,6 +4,7 @@ use model::Base;
 
 use crate::builder::BaseBuilder;
 use crate::damage::{any_damage, crowd, empty_clause, field_by_field, random_bytes};
+use crate::days::turn_days;
 use crate::lively::{full_base, heavy_base, lively_base};
 use crate::questions::*;
 use crate::random::Random;
@@ -19,7 +20,7 @@ pub fn lively_bases(seed: u64, bases: usize, mut attempt: impl FnMut(&[u8], &Ask
     }
 }
 
-/// Bases of 2,364 bytes, ten questions each.
+/// Bases of 2,460 bytes, ten questions each.
 pub fn full_bases(seed: u64, bases: usize, mut attempt: impl FnMut(&[u8], &Asked)) {
     let mut random = Random::new(seed);
     for _ in 0..bases {
@@ -111,7 +112,7 @@ pub fn damaged_bases(seed: u64, bases: usize, mut attempt: impl FnMut(&[u8], &As
             let asked = random_question(&mut random, &records, &base);
             attempt(&any_damage(&mut random, &image), &asked);
         }
-        for spoil in [crowd, empty_clause] {
+        for spoil in [crowd, empty_clause, turn_days] {
             let asked = random_question(&mut random, &records, &base);
             let mut records = records.clone();
             spoil(&mut random, &mut records);

@@ -5,6 +5,7 @@ use model::{Acting, Base, Change, Reading};
 use crate::bounds::Changed;
 use crate::builder::BaseBuilder;
 use crate::damage::{any_damage, crowd, empty_clause, field_by_field, random_bytes};
+use crate::days::turn_days;
 use crate::mornings::sound_base;
 use crate::questions::{any_number, loose_group, random_entry, shut_role, spoil_length};
 use crate::random::Random;
@@ -33,7 +34,7 @@ pub fn damaged_bases(seed: u64, bases: usize, mut attempt: impl FnMut(&[u8], &Ch
             let changed = random_change(&mut random, &base);
             attempt(&any_damage(&mut random, &image), &changed);
         }
-        for spoil in [crowd, empty_clause] {
+        for spoil in [crowd, empty_clause, turn_days] {
             let changed = random_change(&mut random, &base);
             let mut records = records.clone();
             spoil(&mut random, &mut records);

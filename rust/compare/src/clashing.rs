@@ -1,6 +1,7 @@
 //! Random bases with many conflicts, and with pairs that narrowly miss one.
 
 use crate::builder::*;
+use crate::days::give_days;
 use crate::random::Random;
 use crate::valid::{random_exclusion, rising_pair, times};
 
@@ -20,6 +21,7 @@ pub fn clashing_base(random: &mut Random) -> BaseBuilder {
         base.hierarchy = times(random.below(8), || edge(rising_pair(random, roles)));
     }
     base.users = times(most(random, 1), || user(random, roles));
+    give_days(random, &mut base.users);
     base.context_clauses = times(random.below(13), || tight_clause(random, numbers));
     base.policies = times(most(random, 5), || {
         let context = random.between(0, numbers);
@@ -52,7 +54,7 @@ fn user(random: &mut Random, roles: u8) -> User {
     let left_out = random.pick(&[2, 4, 8]);
     let codes = CODES[..usize::from(roles)].iter();
     let parameter = codes.filter(|_| !random.chance(left_out)).product();
-    User { parameter }
+    User::always(parameter)
 }
 
 /// A clause of a number below `numbers`, mostly on one parameter, with values

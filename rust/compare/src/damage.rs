@@ -12,7 +12,7 @@ const BYTES: [u8; 22] = [
 
 /// The same for numbers of 2 bytes.
 const SHORTS: [u16; 18] = [
-    0, 1, 3, 4, 6, 7, 16, 29, 36, 255, 256, 512, 1439, 1440, 2328, 2364, 32768, 65535,
+    0, 1, 3, 4, 6, 7, 16, 29, 36, 255, 256, 512, 1439, 1440, 2424, 2460, 32768, 65535,
 ];
 
 /// The same for parameters: codes, products, squares and other primes.
@@ -167,7 +167,7 @@ pub fn resize(random: &mut Random, bytes: &mut Vec<u8>) {
 
 /// Bytes of any length and content; most end in the right letters.
 pub fn random_bytes(random: &mut Random) -> Vec<u8> {
-    let longest = random.pick(&[40, 200, 2400]);
+    let longest = random.pick(&[40, 200, 2500]);
     let length = random.below(longest + 1);
     let mut bytes: Vec<u8> = (0..length).map(|_| random.byte()).collect();
     if !random.chance(4) {

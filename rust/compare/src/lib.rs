@@ -9,7 +9,10 @@ pub mod changes;
 pub mod choices;
 pub mod clashing;
 pub mod damage;
+pub mod days;
 mod decisions;
+#[cfg(test)]
+mod kinds;
 pub mod lent;
 pub mod lists;
 pub mod lively;
@@ -68,6 +71,7 @@ pub fn library_context(at: Context) -> release::Context {
         minute: at.minute,
         day: at.day,
         zone: at.zone,
+        date: at.date,
     }
 }
 

@@ -1,6 +1,7 @@
 //! Random bases whose permissions are granted to some groups and not to others.
 
 use crate::builder::*;
+use crate::days::give_days;
 use crate::random::Random;
 use crate::valid::{random_exclusion, random_permission, rising_pair, times};
 
@@ -15,6 +16,7 @@ pub fn lively_base(random: &mut Random, most_users: usize) -> BaseBuilder {
     let mut base = BaseBuilder::new(roles);
     base.hierarchy = hierarchy(random, roles);
     base.users = times(users, || user(random, held));
+    give_days(random, &mut base.users);
     base.permissions = times(permissions.into(), || random_permission(random));
     base.group_clauses = group_clauses(random, roles, permissions);
     let numbers = context_numbers(random);
@@ -27,7 +29,7 @@ pub fn lively_base(random: &mut Random, most_users: usize) -> BaseBuilder {
     base
 }
 
-/// A random base with as many records as the limits allow: 2,364 bytes.
+/// A random base with as many records as the limits allow: 2,460 bytes.
 pub fn full_base(random: &mut Random) -> BaseBuilder {
     let roles = random.between(2, 8);
     let permissions = LIMITS[2] as u8;
@@ -35,6 +37,7 @@ pub fn full_base(random: &mut Random) -> BaseBuilder {
     let mut base = BaseBuilder::new(roles);
     base.hierarchy = times(LIMITS[0], || edge(rising_pair(random, roles)));
     base.users = times(LIMITS[1], || user(random, roles));
+    give_days(random, &mut base.users);
     base.permissions = times(LIMITS[2], || random_permission(random));
     base.group_clauses = times(LIMITS[3], || {
         let permission = random.between(0, permissions - 1);
@@ -59,9 +62,8 @@ pub fn heavy_base(random: &mut Random) -> BaseBuilder {
     let heavy_role = |random: &mut Random| CODES[random.pick(&[0, 0, 0, 1, 2])];
     let mut base = BaseBuilder::new(8).with_permissions(1);
     base.hierarchy = (1..8).map(|junior| edge((junior - 1, junior))).collect();
-    base.users = times(8, || User {
-        parameter: heavy_role(random),
-    });
+    base.users = times(8, || User::always(heavy_role(random)));
+    give_days(random, &mut base.users);
     base.group_clauses = vec![GroupClause::new(0, &[heavy_condition(random)])];
     base.policies = (0..8)
         .map(|role| Policy::new(role, 0, random.between(lightest, 5), 1, NO_CONTEXT))
@@ -105,9 +107,7 @@ fn user(random: &mut Random, roles: u8) -> User {
     let mut codes = CODES[..usize::from(roles)].to_vec();
     random.shuffle(&mut codes);
     let held = random.pick(&[0, 1, 1, 1, 1, 1, 2, 2, 3, codes.len()]);
-    User {
-        parameter: codes.iter().take(held).product(),
-    }
+    User::always(codes.iter().take(held).product())
 }
 
 /// None to three clauses for each permission.
@@ -248,7 +248,7 @@ mod tests {
         let mut random = Random::new(25);
         for _ in 0..200 {
             let bytes = full_base(&mut random).bytes();
-            assert_eq!(bytes.len(), 2364);
+            assert_eq!(bytes.len(), 2460);
             assert_eq!(model::check(&bytes), 0);
         }
     }
@@ -346,6 +346,24 @@ mod tests {
             let only_the_search = reading == Reading::HeaviestUsers;
             assert!(decisions >= 5 || (only_the_search && decisions == 0));
             assert!(reports >= 5);
+        }
+    }
+
+    #[test]
+    fn every_wrong_reading_of_dates_comes_up() {
+        for (reading, of_decisions, of_reports) in [
+            (Reading::FirstDayExcluded, true, true),
+            (Reading::LastDayExcluded, true, true),
+            (Reading::DaysBeforeMembership, true, false),
+            (Reading::DaysAfterWeight, true, false),
+            (Reading::DaysForgotten, false, true),
+            (Reading::DaysAtSigning, false, false),
+        ] {
+            let [decisions, reports] = differences(reading);
+            println!("{reading:?}: {decisions} decisions, {reports} reports");
+            for (found, shows) in [(decisions, of_decisions), (reports, of_reports)] {
+                assert!(found >= 5 || (!shows && found == 0), "{reading:?}");
+            }
         }
     }
 }

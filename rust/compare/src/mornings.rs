@@ -2,9 +2,10 @@
 
 use model::{Base, Context, Question, Reading, Sheet};
 
-use crate::builder::{BaseBuilder, User, CODES};
+use crate::builder::{BaseBuilder, CODES};
 use crate::capped::capped_base;
 use crate::damage::{any_damage, crowd, empty_clause};
+use crate::days::{give_days, turn_days};
 use crate::lively::{full_base, heavy_base, lively_base};
 use crate::questions::{any_context, any_permission, context_in_range, near_smallest, sound_group};
 use crate::random::Random;
@@ -77,7 +78,7 @@ fn read(records: &BaseBuilder) -> Base {
 /// The base, one with other members, another base and two damaged ones.
 fn bases(random: &mut Random, records: &BaseBuilder) -> Vec<Vec<u8>> {
     let mut spoilt = records.clone();
-    let spoil = random.pick(&[crowd, empty_clause]);
+    let spoil = random.pick(&[crowd, empty_clause, turn_days]);
     spoil(random, &mut spoilt);
     vec![
         records.bytes(),
@@ -88,11 +89,11 @@ fn bases(random: &mut Random, records: &BaseBuilder) -> Vec<Vec<u8>> {
     ]
 }
 
-/// The base with some users gone from its end, with other roles for some, or
-/// with fewer H records.
+/// The base with some users gone from its end, with other roles or other days
+/// for some, or with fewer H records.
 fn with_other_members(random: &mut Random, records: &BaseBuilder) -> BaseBuilder {
     let mut changed = records.clone();
-    match random.below(3) {
+    match random.below(4) {
         0 => {
             let users = random.below(records.users.len() + 1);
             changed.users.truncate(users);
@@ -101,11 +102,11 @@ fn with_other_members(random: &mut Random, records: &BaseBuilder) -> BaseBuilder
             let codes = &CODES[..usize::from(records.roles)];
             for user in &mut changed.users {
                 if random.chance(3) {
-                    let parameter = random.pick(codes);
-                    *user = User { parameter };
+                    user.parameter = random.pick(codes);
                 }
             }
         }
+        2 => give_days(random, &mut changed.users),
         _ => {
             let one_in = random.pick(&[1, 2, 4]);
             changed.hierarchy.retain(|_| !random.chance(one_in));
@@ -299,7 +300,7 @@ mod tests {
 
     #[test]
     fn every_answer_comes_up_often() {
-        let mut tally = [[0; 24]; 4];
+        let mut tally = [[0; 25]; 4];
         all_calls(|base, call, sheet| {
             let answer = call.by_model(Reading::Paper, base, sheet);
             tally[call.kind()][usize::from(answer)] += 1;
@@ -311,8 +312,17 @@ mod tests {
         often(0, &[0, 10]);
         often(1, &[0, 13, 14, 15, 20]);
         often(2, &[0, 23]);
-        often(3, &[0, 10, 11, 12, 13, 14, 15, 16, 17]);
+        often(3, &[0, 10, 11, 12, 13, 14, 15, 24, 16, 17]);
     }
+
+    /// Those that sound bases show.
+    const OF_DATES: [Reading; 5] = [
+        Reading::FirstDayExcluded,
+        Reading::LastDayExcluded,
+        Reading::DaysBeforeMembership,
+        Reading::DaysAfterWeight,
+        Reading::DaysAtSigning,
+    ];
 
     /// In how many openings, signings, withdrawals and askings a wrong reading
     /// has another answer or another sheet.
@@ -332,7 +342,8 @@ mod tests {
     fn every_wrong_reading_comes_up() {
         let on_sheets = Reading::WRONG_ON_SHEETS.into_iter();
         let on_sheets = on_sheets.chain(Reading::WRONG_OF_WITHDRAWAL);
-        for reading in on_sheets.chain(Reading::WRONG_OF_ACTING) {
+        let on_sheets = on_sheets.chain(Reading::WRONG_OF_ACTING);
+        for reading in on_sheets.chain(OF_DATES) {
             let found = differences(reading);
             println!("{reading:?}: {found:?}");
             let shows = match reading {
@@ -342,6 +353,8 @@ mod tests {
                     [false, true, false, true]
                 }
                 Reading::SeniorInSet | Reading::SeniorsWeight => [false, false, false, true],
+                Reading::DaysAtSigning => [false, true, false, false],
+                _ if OF_DATES.contains(&reading) => [false, false, false, true],
                 _ if Reading::WRONG_OF_WITHDRAWAL.contains(&reading) => [false, false, true, false],
                 _ => [false, true, false, false],
             };

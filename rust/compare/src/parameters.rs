@@ -35,7 +35,7 @@ impl Checked {
         let Checked { parameter, roles } = self;
         (1..=8).contains(&roles).then(|| {
             let mut base = BaseBuilder::new(roles as u8);
-            base.users.push(User { parameter });
+            base.users.push(User::always(parameter));
             base.bytes()
         })
     }

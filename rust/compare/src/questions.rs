@@ -3,6 +3,7 @@
 use model::{Base, Context, Entry, Question, Reading, Resolution};
 
 use crate::builder::BaseBuilder;
+use crate::days::date_in_range;
 use crate::random::Random;
 
 /// What the decision is asked of a base.
@@ -23,12 +24,21 @@ impl Asked {
     }
 }
 
-/// A context of day and zone 0.
+/// The date of a context where it doesn't matter: everybody has all days.
+pub const SOME_DATE: u32 = 20_000;
+
+/// A context of day and zone 0, on some date.
 pub fn at_minute(minute: u32) -> Context {
+    at_date(minute, SOME_DATE)
+}
+
+/// A context of day and zone 0.
+pub fn at_date(minute: u32, date: u32) -> Context {
     Context {
         minute,
         day: 0,
         zone: 0,
+        date,
     }
 }
 
@@ -76,21 +86,24 @@ pub(crate) fn any_number(random: &mut Random, count: usize) -> u32 {
 pub fn any_context(random: &mut Random, records: &BaseBuilder) -> Context {
     let mut at = context_in_range(random, records);
     if random.chance(12) {
-        match random.below(3) {
+        match random.below(4) {
             0 => at.minute = random.pick(&[1440, 1441, 65_535, 65_536 + at.minute, u32::MAX]),
             1 => at.day = random.pick(&[7, 8, 256 + at.day, u32::MAX]),
-            _ => at.zone = random.pick(&[256, 256 + at.zone, 65_536, u32::MAX]),
+            2 => at.zone = random.pick(&[256, 256 + at.zone, 65_536, u32::MAX]),
+            _ => at.date = random.pick(&[65_536, 65_537, 65_536 + at.date, u32::MAX]),
         }
     }
     at
 }
 
-/// A context in range, mostly at or beside a value in the base's clauses.
+/// A context in range, mostly at or beside a value in the base's clauses and a
+/// user's first or last day.
 pub fn context_in_range(random: &mut Random, records: &BaseBuilder) -> Context {
     Context {
         minute: value_in_range(random, records, 0, 1439),
         day: value_in_range(random, records, 1, 6),
         zone: value_in_range(random, records, 2, 255),
+        date: date_in_range(random, &records.users),
     }
 }
 
@@ -111,18 +124,21 @@ fn value_in_range(random: &mut Random, records: &BaseBuilder, parameter: u8, las
     random.pick(&values).min(last).into()
 }
 
-/// A sound group, one near a smallest, a damaged one or any bytes.
+/// A sound group, one near a smallest, one with a user who doesn't come on the
+/// date, a damaged one or any bytes.
 pub fn any_group(random: &mut Random, question: &Question) -> Vec<u8> {
-    match random.below(10) {
+    match random.below(13) {
         0..=2 => sound_group(random, question).concat(),
-        3..=5 => near_smallest(random, question).concat(),
-        6..=8 => damaged_group(random, question),
+        3..=6 => near_smallest(random, question).concat(),
+        7 => group_with_absent(random, question).concat(),
+        8..=11 => damaged_group(random, question),
         _ => loose_group(random),
     }
 }
 
-/// Different users, each in a role with weight that the user may act in, if
-/// there are any: any such role, one held where there is one, or one not held.
+/// Different users who come on the date, each in a role with weight that the
+/// user may act in, if there are any: any such role, one held where there is one,
+/// or one not held.
 pub(crate) fn sound_group(random: &mut Random, question: &Question) -> Vec<[u8; 2]> {
     let mut users: Vec<u8> = (0..question.base.users.len() as u8).collect();
     random.shuffle(&mut users);
@@ -161,7 +177,27 @@ pub(crate) fn near_smallest(random: &mut Random, question: &Question) -> Vec<[u8
     group
 }
 
-/// A group with a fault or two of the kinds that refusals 12 to 16 name.
+/// A sound group, and in place of one entry a user who doesn't come on the date,
+/// if there is one. At times another user is in a role that is shut or has no
+/// weight.
+fn group_with_absent(random: &mut Random, question: &Question) -> Vec<[u8; 2]> {
+    let mut group = sound_group(random, question);
+    let [absent, others @ ..] = &mut group[..] else {
+        return group;
+    };
+    absent_entry(random, question, absent);
+    if let [other, ..] = others {
+        match random.below(4) {
+            0 => shut_role(random, question.base, other),
+            1 => weightless_entry(random, question, other),
+            _ => (),
+        }
+    }
+    random.shuffle(&mut group);
+    group
+}
+
+/// A group with a fault or two of the kinds that refusals 12 to 16 and 24 name.
 fn damaged_group(random: &mut Random, question: &Question) -> Vec<u8> {
     let mut group = sound_group(random, question);
     if group.is_empty() {
@@ -189,13 +225,14 @@ fn spoil_entry(random: &mut Random, question: &Question, group: &mut [[u8; 2]]) 
     let roles = question.base.roles;
     let place = random.below(group.len());
     let other = random.below(group.len());
-    match random.below(13) {
+    match random.below(20) {
         0 => group[place][0] = random.pick(&[users, users + 1, 255]),
         1 => group[place][1] = random.pick(&[roles, 8, 9, 255]),
-        2 => group[place][0] = group[other][0],
-        3 | 4 => group[place][1] = random.between(0, roles - 1),
-        5 => group[place] = random_entry(random, question.base),
-        6..=8 => shut_role(random, question.base, &mut group[place]),
+        2 | 3 => group[place][0] = group[other][0],
+        4 | 5 => group[place][1] = random.between(0, roles - 1),
+        6 => group[place] = random_entry(random, question.base),
+        7..=10 => shut_role(random, question.base, &mut group[place]),
+        11 | 12 => absent_entry(random, question, &mut group[place]),
         _ => weightless_entry(random, question, &mut group[place]),
     }
 }
@@ -218,10 +255,29 @@ pub(crate) fn shut_role(random: &mut Random, base: &Base, entry: &mut [u8; 2]) {
 
 /// Puts a user who may act in a role without weight into it, if there is one.
 fn weightless_entry(random: &mut Random, question: &Question, entry: &mut [u8; 2]) {
+    acting_entry(random, question, entry, |_, role| {
+        question.weight(role) == 0
+    });
+}
+
+/// Puts a user who doesn't come on the date, in a role that the user may act in,
+/// if there is one.
+fn absent_entry(random: &mut Random, question: &Question, entry: &mut [u8; 2]) {
+    acting_entry(random, question, entry, |user, _| !question.comes(user));
+}
+
+/// Puts a wanted user and role, where the user may act in the role, if there are
+/// any.
+fn acting_entry(
+    random: &mut Random,
+    question: &Question,
+    entry: &mut [u8; 2],
+    wanted: impl Fn(u8, u8) -> bool,
+) {
     let mut choices = Vec::new();
     for user in 0..question.base.users.len() as u8 {
         for role in 0..question.base.roles {
-            if question.base.may_act(user, role) && question.weight(role) == 0 {
+            if wanted(user, role) && question.base.may_act(user, role) {
                 choices.push([user, role]);
             }
         }
@@ -246,7 +302,7 @@ mod tests {
     #[test]
     fn every_answer_comes_up_often() {
         let mut random = Random::new(11);
-        let mut tally = [0; 18];
+        let mut tally = [0; 25];
         for _ in 0..1_000 {
             let records = lively_base(&mut random, 24);
             let bytes = records.bytes();
@@ -258,7 +314,7 @@ mod tests {
             }
         }
         assert_eq!(tally[1..10], [0; 9]);
-        let mut answers = (10..18).chain([0]);
+        let mut answers = (10..18).chain([0, 24]);
         assert!(answers.all(|answer| tally[answer] >= 300), "{tally:?}");
     }
 }

@@ -149,7 +149,7 @@ mod tests {
     #[test]
     fn every_answer_comes_up_often() {
         let mut random = Random::new(143);
-        let mut tally = [0; 23];
+        let mut tally = [0; 25];
         for _ in 0..8_000 {
             let (base, _, asked) = question(&mut random);
             let list = any_list(&mut random);
@@ -162,7 +162,7 @@ mod tests {
             tally[usize::from(answer)] += 1;
         }
         assert_eq!(tally[1..10], [0; 9]);
-        let mut answers = (10..18).chain([0, 22]);
+        let mut answers = (10..18).chain([0, 22, 24]);
         assert!(answers.all(|answer| tally[answer] >= 100), "{tally:?}");
     }
 
@@ -170,7 +170,7 @@ mod tests {
     fn differences(reading: Reading) -> [usize; 2] {
         let mut random = Random::new(144);
         let mut found = [0; 2];
-        for _ in 0..150 {
+        for _ in 0..250 {
             let (base, permissions, asked) = question(&mut random);
             let illegal = illegal_list(&mut random);
             for list in LEGAL.into_iter().chain([&illegal[..]]) {

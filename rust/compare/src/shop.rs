@@ -7,7 +7,7 @@ pub fn small_shop() -> BaseBuilder {
     let edge = |senior, junior| Edge { senior, junior };
     BaseBuilder {
         hierarchy: vec![edge(0, 1), edge(1, 2)],
-        users: [3, 5, 7, 7].map(|parameter| User { parameter }).to_vec(),
+        users: [3, 5, 7, 7].map(User::always).to_vec(),
         group_clauses: vec![GroupClause::new(0, &[(0, 2, 2), (1, 2, 5)])],
         context_clauses: vec![ContextClause::new(0, &[(0, 2, 540), (0, 3, 1020)])],
         policies: vec![
@@ -35,7 +35,7 @@ pub fn refused_bases() -> [Vec<u8>; 9] {
     };
     [
         vec![0; 35],
-        shop.bytes_with(|trailer| trailer.letters[3] = b'Q'),
+        shop.bytes_with(|trailer| trailer.letters = OLD_LETTERS),
         shop.bytes_with(|trailer| trailer.roles = 9),
         with(|shop| shop.hierarchy[1].junior = 3),
         with(|shop| shop.users[3].parameter = 9),

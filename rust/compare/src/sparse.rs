@@ -4,12 +4,13 @@
 use model::{Base, Question, Reading};
 
 use crate::builder::*;
+use crate::days::give_days;
 use crate::questions::{at_minute, sound_group};
 use crate::random::Random;
 use crate::valid::{rising_pair, times};
 
 /// A random base that passes the check, with six to `most_users` users. Its
-/// policies have no context.
+/// policies have no context, and its clauses are made for users of all days.
 pub fn sparse_base(random: &mut Random, most_users: usize) -> BaseBuilder {
     let roles = random.between(4, 8);
     let permissions = random.pick(&[1, 1, 2, 3]);
@@ -25,6 +26,7 @@ pub fn sparse_base(random: &mut Random, most_users: usize) -> BaseBuilder {
         base.policies.extend(policies(random, roles, permission));
     }
     base.group_clauses = clauses(random, &base);
+    give_days(random, &mut base.users);
     base
 }
 
@@ -34,9 +36,7 @@ fn user(random: &mut Random, roles: u8, most: usize) -> User {
     random.shuffle(&mut codes);
     let some = 1 + random.below(most);
     let held = random.pick(&[some, some, some, some, 0]);
-    User {
-        parameter: codes.iter().take(held).product(),
-    }
+    User::always(codes.iter().take(held).product())
 }
 
 /// A policy for most roles.

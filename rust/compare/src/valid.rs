@@ -1,6 +1,7 @@
 //! Random bases that pass the check.
 
 use crate::builder::*;
+use crate::days::give_days;
 use crate::random::Random;
 
 /// How many records the tables of a random base get.
@@ -12,7 +13,7 @@ pub enum Size {
     Small,
     /// Up to the limits.
     Any,
-    /// All that the limits allow: 2,364 bytes.
+    /// All that the limits allow: 2,460 bytes.
     Full,
 }
 
@@ -36,6 +37,7 @@ pub fn random_base(random: &mut Random, size: Size) -> BaseBuilder {
     let permissions = counts[2] as u8;
     let mut base = BaseBuilder::new(roles);
     base.users = times(counts[1], || random_user(random, roles));
+    give_days(random, &mut base.users);
     base.permissions = times(counts[2], || random_permission(random));
     base.context_clauses = times(counts[4], || random_context_clause(random));
     if roles > 1 {
@@ -71,7 +73,7 @@ pub(crate) fn rising_pair(random: &mut Random, end: u8) -> (u8, u8) {
 fn random_user(random: &mut Random, roles: u8) -> User {
     let codes = CODES[..usize::from(roles)].iter();
     let parameter = codes.filter(|_| random.chance(2)).product();
-    User { parameter }
+    User::always(parameter)
 }
 
 pub(crate) fn random_permission(random: &mut Random) -> Permission {

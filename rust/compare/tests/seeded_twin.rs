@@ -2,11 +2,12 @@
 //! shows is free.
 
 use compare::bounds::Changed;
-use compare::builder::BaseBuilder;
+use compare::builder::{BaseBuilder, OLD_LETTERS};
 use compare::capped::capped_base;
 use compare::changes::random_change;
 use compare::clashing::clashing_base;
 use compare::damage::*;
+use compare::days::turn_days;
 use compare::lent::Lent;
 use compare::lists::{any_list, List};
 use compare::lively::{full_base, heavy_base, lively_base};
@@ -125,6 +126,11 @@ fn seeded_comparison() {
         let at = any_context(&mut random, &records);
         compare_calls(&mut random, &image.bytes, at);
         let base = Base::read(&image.bytes).expect("the base passes");
+        let mut turned = records.clone();
+        turn_days(&mut random, &mut turned);
+        for refused in [turned.bytes(), records.old_bytes(OLD_LETTERS)] {
+            compare_calls(&mut random, &refused, at);
+        }
         for _ in 0..4 {
             let asked = random_question(&mut random, &records, &base);
             compare_decision(&mut random, &image.bytes, &asked);

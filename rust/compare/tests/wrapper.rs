@@ -4,9 +4,10 @@ use compare::builder::{BaseBuilder, User};
 use compare::cases::*;
 use compare::clashing::clashing_base;
 use compare::lists::{ILLEGAL, LEGAL};
+use compare::lively::full_base;
 use compare::parameters::Checked;
 use compare::products::random_parameters;
-use compare::questions::{at_minute, random_question, Asked};
+use compare::questions::{at_date, at_minute, random_question, Asked};
 use compare::random::Random;
 use compare::rivals::rival_base;
 use compare::shop::small_shop;
@@ -14,7 +15,7 @@ use compare::{library_context, permission_count};
 use model::{Base, Reading};
 use release::answers::{self, Answer};
 use release::example::SMALL_SHOP;
-use release::{Context, Entry, Permission, Refusal, Report, Resolution, Sheet, SHEET_BYTES};
+use release::{Context, Entry, Permission, Refusal, Report, Resolution, Rule, Sheet, SHEET_BYTES};
 
 /// A result's refusal as a number, 0 for none.
 fn number<T>(result: &Result<T, Refusal>) -> u32 {
@@ -341,7 +342,7 @@ fn many_conflicts() {
 #[test]
 fn a_full_sheet() {
     let shop = BaseBuilder {
-        users: [7; 8].map(|parameter| User { parameter }).to_vec(),
+        users: [7; 8].map(User::always).to_vec(),
         ..small_shop()
     };
     let clerks: Vec<[u8; 2]> = (0..8).map(|user| [user, 2]).collect();
@@ -359,4 +360,41 @@ fn the_shortest_base_and_no_bytes() {
 #[test]
 fn the_example_is_the_papers() {
     assert_eq!(small_shop().bytes(), SMALL_SHOP);
+}
+
+#[test]
+fn the_longest_base_has_every_table_full() {
+    let full = full_base(&mut Random::new(93)).bytes();
+    assert_eq!(full.len(), release::LONGEST_BASE);
+    assert_eq!(release::check(&full), Ok(()));
+    let longer = [&[0], &full[..]].concat();
+    assert_eq!(release::check(&longer), Err(Refusal::Length));
+}
+
+/// The manager's last day is 299. Manager and clerk are granted up to it.
+#[test]
+fn a_user_out_of_date() {
+    let mut shop = small_shop();
+    shop.users[0].set_days(0, 299);
+    let base = shop.bytes();
+    let group = [Entry::new(0, 0), Entry::new(2, 2)];
+    let mut sheet = Sheet::open(&base, 0).expect("the permission is there");
+    for entry in group {
+        assert_eq!(sheet.sign(&base, entry), Ok(()));
+    }
+    for (date, refusal) in [(299, 0), (300, 24), (65_536, 11)] {
+        let at = Context::new(600, 0, 0, date);
+        let answers = [
+            release::decide(&base, 0, at, &group),
+            release::decide_by(&base, 0, at, Resolution::by(Rule::LaterDay), &group),
+            sheet.ask(&base, at),
+        ];
+        assert_eq!(answers.map(|answer| number(&answer)), [refusal; 3]);
+        let asked = Asked::new(0, at_date(600, date), &[[0, 0], [2, 2]]);
+        expect_all(&base, &asked);
+        expect_by_lists(&base, &asked);
+    }
+    let at = Context::new(600, 0, 0, 300);
+    let out_of_date = release::decide(&base, 0, at, &group);
+    assert_eq!(out_of_date, Err(Refusal::OutOfDate));
 }

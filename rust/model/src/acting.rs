@@ -30,12 +30,18 @@ impl<'a> Acting<'a> {
     /// The entries of a group, or the first of refusals 12 to 15 that applies,
     /// each over all entries before the next.
     pub fn entries(&self, group: &[u8]) -> Result<Vec<Entry>, Refusal> {
-        let group = entries(group).ok_or(Refusal::GroupLength)?;
-        let all = |good: &dyn Fn(&Entry) -> bool| group.iter().all(good);
-        refuse_if(!all(&|entry| self.is_there(entry)), Refusal::NoUserOrRole)?;
-        refuse_if(has_user_twice(&group), Refusal::UserTwice)?;
+        let group = self.different_users(group)?;
         let may_act = |entry: &Entry| self.may_act(entry.user, entry.role);
-        refuse_if(!all(&may_act), Refusal::Membership)?;
+        refuse_if(!group.iter().all(may_act), Refusal::Membership)?;
+        Ok(group)
+    }
+
+    /// The same by refusals 12 to 14 alone.
+    pub fn different_users(&self, group: &[u8]) -> Result<Vec<Entry>, Refusal> {
+        let group = entries(group).ok_or(Refusal::GroupLength)?;
+        let all_there = group.iter().all(|entry| self.is_there(entry));
+        refuse_if(!all_there, Refusal::NoUserOrRole)?;
+        refuse_if(has_user_twice(&group), Refusal::UserTwice)?;
         Ok(group)
     }
 

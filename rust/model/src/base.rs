@@ -2,6 +2,7 @@
 
 use crate::fields::Fields;
 use crate::layout::{Layout, Table};
+use crate::reading::Reading;
 use crate::records::{ContextClause, Edge, Exclusion, GroupClause, Permission, Policy, User};
 use crate::refusal::Refusal;
 
@@ -23,7 +24,12 @@ impl Base {
     /// The base in these bytes, or the first refusal that applies. Each table
     /// is read to its end before the next one starts.
     pub fn read(bytes: &[u8]) -> Result<Base, Refusal> {
-        let layout = Layout::read(bytes)?;
+        Base::read_as(Reading::Paper, bytes)
+    }
+
+    /// The base by this reading.
+    pub fn read_as(reading: Reading, bytes: &[u8]) -> Result<Base, Refusal> {
+        let layout = Layout::read(reading, bytes)?;
         Ok(Base {
             roles: layout.roles,
             hierarchy: all(&layout, Table::Hierarchy, Edge::read).ok_or(Refusal::Hierarchy)?,
@@ -55,7 +61,7 @@ mod tests {
     use crate::operator::Comparison;
     use crate::records::{ContextCondition, GroupCondition, Measure, Parameter};
     use crate::roles::RoleSet;
-    use crate::samples::{edge, policy, small_shop};
+    use crate::samples::{edge, policy, small_shop, user};
 
     #[test]
     fn the_small_shop_has_three_roles_in_a_chain() {
@@ -66,13 +72,12 @@ mod tests {
     }
 
     #[test]
-    fn the_small_shops_users_hold_one_role_each() {
-        let held: Vec<Vec<u8>> = small_shop()
-            .users
-            .iter()
-            .map(|user| user.roles.roles().collect())
-            .collect();
-        assert_eq!(held, [[0], [1], [2], [2]]);
+    fn the_small_shops_users_hold_one_role_each_and_come_every_day() {
+        let users = [[0], [1], [2], [2]].map(|held| user(&held));
+        assert_eq!(small_shop().users, users);
+        for user in small_shop().users {
+            assert_eq!((user.first_day, user.last_day), (0, 65_535));
+        }
     }
 
     #[test]
@@ -124,21 +129,27 @@ mod tests {
     #[test]
     fn every_field_is_read_from_its_place() {
         let tables = [
-            &[111_546_435_u32.to_le_bytes()].concat()[..], // U
-            &[8, 9, 10, 11],                               // P
+            &111_546_435_u32.to_le_bytes()[..],                   // U
+            &[0xff, 0x01, 0x00, 0x02],                            // its days
+            &[8, 9, 10, 11],                                      // P
             &[1, 1, 3, 6, 0x81, 0, 0, 0, 0, 0, 0, 0, 0, 0, 0, 0], // K
-            &[15, 1, 1, 5, 6, 0, 0, 0, 0, 0, 0, 0, 0, 0, 0, 0], // C
-            &[7, 1, 5, 0, 15, 200, 0x34, 0x12],            // A
-            &[0, 3, 7, 1, 0, 1],                           // X
+            &[15, 1, 1, 5, 6, 0, 0, 0, 0, 0, 0, 0, 0, 0, 0, 0],   // C
+            &[7, 1, 5, 0, 15, 200, 0x34, 0x12],                   // A
+            &[0, 3, 7, 1, 0, 1],                                  // X
         ]
         .concat();
-        let places: [u16; 14] = [0, 0, 0, 1, 4, 2, 8, 1, 24, 1, 40, 1, 48, 2];
+        let places: [u16; 14] = [0, 0, 0, 1, 8, 2, 12, 1, 28, 1, 44, 1, 52, 2];
         let places = places.map(u16::to_le_bytes).concat();
-        let bytes = [&tables[..], &places, &[8, 0, 0, 0], b"LCAP"].concat();
+        let bytes = [&tables[..], &places, &[8, 0, 0, 0], b"LCAQ"].concat();
         let base = Base::read(&bytes).expect("the base passes");
         let all_roles = RoleSet::from_bits(255, 8).unwrap();
         let first_and_last = RoleSet::from_bits(0x81, 8).unwrap();
-        assert_eq!(base.users, [User { roles: all_roles }]);
+        let user = User {
+            roles: all_roles,
+            first_day: 0x01ff,
+            last_day: 0x0200,
+        };
+        assert_eq!(base.users, [user]);
         assert_eq!(base.permissions[1].object, 11);
         assert_eq!(
             base.group_clauses[0].conditions,

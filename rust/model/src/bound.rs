@@ -18,7 +18,7 @@ pub fn bound(base: &[u8], policy: u32, weight: u32, group: &[u8]) -> Answer {
 
 /// The bound by this reading.
 pub fn bound_as(reading: Reading, base: &[u8], policy: u32, weight: u32, group: &[u8]) -> Answer {
-    let bound = Base::read(base).and_then(|base| {
+    let bound = Base::read_as(reading, base).and_then(|base| {
         let change = Change::by(reading, &base, policy, weight);
         if reading == Reading::ChangeFirst && change.is_none() {
             return Err(Refusal::NoPolicyOrWeight);
@@ -247,7 +247,7 @@ mod tests {
         let shop = small_shop();
         let change = Change::new(&shop, 1, 4).expect("nothing refuses it");
         let mut bytes = SMALL_SHOP;
-        bytes[64] = 4;
+        bytes[80] = 4;
         assert_eq!(Ok(change.changed_base()), Base::read(&bytes));
     }
 

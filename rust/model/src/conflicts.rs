@@ -21,7 +21,7 @@ pub fn conflicts(base: &[u8], out: &mut [u8]) -> Answer {
 
 /// The list by this reading.
 pub fn conflicts_as(reading: Reading, base: &[u8], out: &mut [u8]) -> Answer {
-    let base = match Base::read(base) {
+    let base = match Base::read_as(reading, base) {
         Ok(base) => base,
         Err(refusal) => return Answer::refused(refusal),
     };
@@ -179,10 +179,10 @@ mod tests {
     }
 
     /// The small shop with its three policies made the buyer's.
-    fn three_conflicts() -> [u8; 114] {
+    fn three_conflicts() -> [u8; 130] {
         let mut shop = SMALL_SHOP;
-        (shop[54], shop[62], shop[70]) = (1, 1, 1);
-        (shop[56], shop[64], shop[72]) = (1, 2, 3);
+        (shop[70], shop[78], shop[86]) = (1, 1, 1);
+        (shop[72], shop[80], shop[88]) = (1, 2, 3);
         shop
     }
 

@@ -4,13 +4,18 @@ use crate::base::Base;
 use crate::reading::{mixed, Reading};
 use crate::records::{ContextClause, ContextCondition, Parameter};
 
-/// A minute, a day and a zone: parameters 0, 1 and 2.
+/// A minute, a day and a zone, parameters 0, 1 and 2, and a date, which no
+/// condition reads.
 #[derive(Clone, Copy, Debug, PartialEq, Eq)]
 pub struct Context {
     pub minute: u32,
     pub day: u32,
     pub zone: u32,
+    pub date: u32,
 }
+
+/// The last date, and the last day that a user can have.
+const LAST_DATE: u32 = 65_535;
 
 impl Context {
     pub fn value(self, parameter: Parameter) -> u32 {
@@ -21,12 +26,13 @@ impl Context {
         }
     }
 
-    /// Whether each parameter lies in its range, so that refusal 11 doesn't
-    /// apply.
+    /// Whether each parameter and the date lie in their ranges, so that refusal
+    /// 11 doesn't apply.
     pub fn in_range(self) -> bool {
-        Parameter::ALL
-            .iter()
-            .all(|&parameter| self.value(parameter) <= u32::from(parameter.last()))
+        let mut parameters = Parameter::ALL.iter();
+        let parameters_fit =
+            parameters.all(|&parameter| self.value(parameter) <= u32::from(parameter.last()));
+        parameters_fit && self.date <= LAST_DATE
     }
 }
 
@@ -73,24 +79,32 @@ mod tests {
     use crate::operator::Comparison;
     use crate::samples::{at_minute, condition, context_clause, small_shop};
 
-    fn in_range(minute: u32, day: u32, zone: u32) -> bool {
-        Context { minute, day, zone }.in_range()
+    fn in_range(minute: u32, day: u32, zone: u32, date: u32) -> bool {
+        let at = Context {
+            minute,
+            day,
+            zone,
+            date,
+        };
+        at.in_range()
     }
 
     #[test]
-    fn a_context_ends_at_minute_1439_day_6_and_zone_255() {
-        assert!(in_range(0, 0, 0));
-        assert!(in_range(1439, 6, 255));
-        assert!(!in_range(1440, 0, 0));
-        assert!(!in_range(0, 7, 0));
-        assert!(!in_range(0, 0, 256));
+    fn a_context_ends_at_minute_1439_day_6_zone_255_and_date_65535() {
+        assert!(in_range(0, 0, 0, 0));
+        assert!(in_range(1439, 6, 255, 65_535));
+        assert!(!in_range(1440, 0, 0, 0));
+        assert!(!in_range(0, 7, 0, 0));
+        assert!(!in_range(0, 0, 256, 0));
+        assert!(!in_range(0, 0, 0, 65_536));
     }
 
     #[test]
     fn large_numbers_are_not_cut() {
-        assert!(!in_range(65_536, 0, 0));
-        assert!(!in_range(0, 256, 0));
-        assert!(!in_range(u32::MAX, u32::MAX, u32::MAX));
+        assert!(!in_range(65_536, 0, 0, 0));
+        assert!(!in_range(0, 256, 0, 0));
+        assert!(!in_range(0, 0, 0, 65_536 + 300));
+        assert!(!in_range(u32::MAX, u32::MAX, u32::MAX, u32::MAX));
     }
 
     #[test]
@@ -125,10 +139,33 @@ mod tests {
         let day = condition(Parameter::Day, Comparison::Equal, 5);
         let zone = condition(Parameter::Zone, Comparison::Equal, 9);
         let clause = context_clause(0, &[day, zone]);
-        let holds = |minute, day, zone| clause.holds(Context { minute, day, zone });
-        assert!(holds(700, 5, 9));
-        assert!(!holds(700, 9, 5));
-        assert!(!holds(5, 0, 9));
+        let holds = |minute, day, zone, date| {
+            clause.holds(Context {
+                minute,
+                day,
+                zone,
+                date,
+            })
+        };
+        assert!(holds(700, 5, 9, 0));
+        assert!(!holds(700, 9, 5, 0));
+        assert!(!holds(5, 0, 9, 5));
+        assert!(!holds(700, 5, 0, 9));
+    }
+
+    #[test]
+    fn no_context_depends_on_the_date() {
+        let shop = small_shop();
+        for minute in [539, 540] {
+            for date in [0, 1, 539, 540, 1020, 65_535] {
+                let at = Context {
+                    date,
+                    ..at_minute(minute)
+                };
+                let holds = shop.context_holds(Some(0), at, Reading::Paper);
+                assert_eq!(holds, minute == 540);
+            }
+        }
     }
 
     #[test]

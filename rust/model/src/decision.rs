@@ -11,13 +11,13 @@ use crate::roles::Role;
 use crate::weight::Situation;
 
 /// 0 if the group is granted the permission, else the first of refusals 1 to
-/// 17 that applies.
+/// 15, 24, 16 and 17 that applies.
 pub fn decide(base: &[u8], permission: u32, at: Context, group: &[u8]) -> u8 {
     decide_as(Reading::Paper, base, permission, at, None, group)
 }
 
-/// The same by a resolution list: the first of refusals 1 to 9, 22, 10, 11 and
-/// 12 to 17.
+/// The same by a resolution list: the first of refusals 1 to 9, 22, 10 to 15,
+/// 24, 16 and 17.
 pub fn decide_by(base: &[u8], permission: u32, at: Context, list: &[u8], group: &[u8]) -> u8 {
     decide_as(Reading::Paper, base, permission, at, Some(list), group)
 }
@@ -31,7 +31,7 @@ pub fn decide_as(
     list: Option<&[u8]>,
     group: &[u8],
 ) -> u8 {
-    number(Base::read(base).and_then(|base| {
+    number(Base::read_as(reading, base).and_then(|base| {
         if reading == Reading::ListAfterPermission {
             let permission = base.permission(permission);
             permission.ok_or(Refusal::NoPermission)?;
@@ -46,6 +46,7 @@ pub fn decide_as(
 pub struct Question<'a> {
     pub base: &'a Base,
     permission: u8,
+    date: u32,
     /// Each role's weight for the permission.
     weights: Vec<u32>,
     acting: Acting<'a>,
@@ -79,30 +80,58 @@ impl<'a> Question<'a> {
         Ok(Question {
             base,
             permission,
+            date: at.date,
             weights,
             acting: Acting::by(reading, base),
             reading,
         })
     }
 
-    /// Refusals 12 to 17, each over all entries before the next.
+    /// Refusals 12 to 15, 24, 16 and 17, each over all entries before the next.
     pub fn ask(&self, group: &[u8]) -> Result<(), Refusal> {
-        let group = self.acting.entries(group)?;
-        let without_weight = group.iter().any(|entry| self.weight_of(entry) == 0);
-        refuse_if(without_weight, Refusal::NoWeight)?;
+        let group = self.acting.different_users(group)?;
+        for refusal in self.refusals_of_entries() {
+            let refused = |entry| self.refuses_entry(refusal, entry);
+            refuse_if(group.iter().any(refused), refusal)?;
+        }
         refuse_if(
             !self.condition_holds(self.attributes(&group)),
             Refusal::Condition,
         )
     }
 
+    /// Those that look at each entry for itself, in order.
+    fn refusals_of_entries(&self) -> [Refusal; 3] {
+        let [role, days, weight] = [Refusal::Membership, Refusal::OutOfDate, Refusal::NoWeight];
+        match self.reading {
+            Reading::DaysBeforeMembership => [days, role, weight],
+            Reading::DaysAfterWeight => [role, weight, days],
+            _ => [role, days, weight],
+        }
+    }
+
+    fn refuses_entry(&self, refusal: Refusal, entry: &Entry) -> bool {
+        match refusal {
+            Refusal::Membership => !self.acting.may_act(entry.user, entry.role),
+            Refusal::OutOfDate => !self.comes(entry.user),
+            _ => self.weight_of(entry) == 0,
+        }
+    }
+
+    /// Whether the user's days include the date.
+    pub fn comes(&self, user: u8) -> bool {
+        self.base.comes_on(self.reading, user, self.date)
+    }
+
     pub fn grants(&self, group: &[u8]) -> bool {
         self.ask(group).is_ok()
     }
 
-    /// Whether the entry's user may act in its role for this permission.
-    fn is_eligible(&self, entry: &Entry) -> bool {
-        self.acting.may_act(entry.user, entry.role)
+    /// Whether a report considers the entry: nothing refuses it for itself.
+    fn is_considered(&self, entry: &Entry) -> bool {
+        let passes = |refusal| !self.refuses_entry(refusal, entry);
+        let comes = self.reading == Reading::DaysForgotten || passes(Refusal::OutOfDate);
+        passes(Refusal::Membership) && comes && passes(Refusal::NoWeight)
     }
 
     pub fn weight(&self, role: Role) -> u32 {
@@ -124,11 +153,12 @@ impl<'a> Question<'a> {
         held.unwrap_or(entry.role)
     }
 
-    /// The entries that a user may stand in: eligible and with weight.
+    /// The entries that a user may stand in: in a role with weight that the user
+    /// may act in, if the user comes on the date.
     pub fn entries_of(&self, user: u8) -> impl Iterator<Item = Entry> + '_ {
         (0..self.base.roles)
             .map(move |role| Entry { user, role })
-            .filter(|entry| self.is_eligible(entry) && self.weight_of(entry) > 0)
+            .filter(|entry| self.is_considered(entry))
     }
 
     fn attributes(&self, group: &[Entry]) -> Attributes {
@@ -275,6 +305,56 @@ mod tests {
         assert_eq!(decide(&SMALL_SHOP, 0, zone(255), &group), 0);
         assert_eq!(decide(&SMALL_SHOP, 0, zone(256), &group), 11);
         assert_eq!(decide(&SMALL_SHOP, 0, at_minute(65_536 + 600), &group), 11);
+    }
+
+    /// The small shop's answer by a reading at minute 480 on a date, with these
+    /// days for its users. Early the manager weighs 4, the buyer 1 and a clerk 0.
+    fn with_days(reading: Reading, days: [(u16, u16); 4], date: u32, group: &[[u8; 2]]) -> u8 {
+        let mut shop = small_shop();
+        for (user, days) in shop.users.iter_mut().zip(days) {
+            (user.first_day, user.last_day) = days;
+        }
+        let at = Context {
+            date,
+            ..at_minute(480)
+        };
+        let question = Question::new(&shop, 0, at, reading);
+        number(question.and_then(|question| question.ask(&group.concat())))
+    }
+
+    const ALL_DAYS: (u16, u16) = (0, 65_535);
+
+    #[test]
+    fn a_date_out_of_the_days_of_an_entrys_user() {
+        let days = [ALL_DAYS, (255, 256), ALL_DAYS, ALL_DAYS];
+        let ask = |date| with_days(Reading::Paper, days, date, &[MANAGER, BUYER]);
+        assert_eq!([0, 254, 255, 256, 257].map(ask), [24, 24, 0, 0, 24]);
+        assert_eq!([65_535, 65_536, 65_536 + 255].map(ask), [24, 11, 11]);
+        let manager_alone = |date| with_days(Reading::Paper, days, date, &[MANAGER]);
+        assert_eq!([0, 65_535].map(manager_alone), [17, 17]);
+    }
+
+    /// The clerk has no weight early, and the buyer's days are over.
+    #[test]
+    fn days_come_behind_the_role_and_before_the_weight() {
+        let days = [ALL_DAYS, (0, 299), ALL_DAYS, ALL_DAYS];
+        let ask = |reading, group: &[[u8; 2]]| with_days(reading, days, 300, group);
+        let paper = |group: &[[u8; 2]]| ask(Reading::Paper, group);
+        assert_eq!(paper(&[BUYER, CLERK]), 24);
+        assert_eq!(paper(&[CLERK, BUYER]), 24);
+        assert_eq!(paper(&[BUYER, [3, 1]]), 15);
+        assert_eq!(paper(&[[1, 0]]), 15);
+        assert_eq!(paper(&[BUYER, BUYER]), 14);
+        assert_eq!(paper(&[BUYER, [9, 9]]), 13);
+        assert_eq!(paper(&[BUYER]), 24);
+        let before = Reading::DaysBeforeMembership;
+        assert_eq!(ask(before, &[BUYER, [3, 1]]), 24);
+        assert_eq!(ask(before, &[BUYER, CLERK]), 24);
+        assert_eq!(ask(before, &[BUYER, BUYER]), 14);
+        let after = Reading::DaysAfterWeight;
+        assert_eq!(ask(after, &[BUYER, CLERK]), 16);
+        assert_eq!(ask(after, &[BUYER, [3, 1]]), 15);
+        assert_eq!(ask(after, &[BUYER]), 24);
     }
 
     #[test]

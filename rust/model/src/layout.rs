@@ -1,6 +1,7 @@
 //! Where the tables of a base lie: refusals 1 to 3.
 
 use crate::fields::Fields;
+use crate::reading::Reading;
 use crate::refusal::Refusal;
 use crate::roles::{Role, MOST_ROLES};
 
@@ -19,7 +20,7 @@ pub enum Table {
 /// Bytes a record and at most so many records, in table order.
 const SHAPES: [(usize, usize); 7] = [
     (2, 28),
-    (4, 24),
+    (8, 24),
     (2, 16),
     (16, 64),
     (16, 32),
@@ -27,7 +28,11 @@ const SHAPES: [(usize, usize); 7] = [
     (3, 32),
 ];
 
-const LETTERS: [u8; 4] = *b"LCAP";
+const LETTERS: [u8; 4] = *b"LCAQ";
+
+/// Those of bases whose users have no days.
+const OLD_LETTERS: [u8; 4] = *b"LCAP";
+
 const TRAILER_BYTES: usize = 36;
 
 /// The length of a base with every table full.
@@ -56,6 +61,11 @@ impl Trailer {
         }
     }
 
+    fn letters_fit(&self, reading: Reading) -> bool {
+        let old_allowed = reading == Reading::OldLetters;
+        self.letters == LETTERS || (old_allowed && self.letters == OLD_LETTERS)
+    }
+
     /// Whether the tables fill `room` bytes in order, none above its limit.
     fn fills(&self, room: usize) -> bool {
         let mut end = 0;
@@ -73,28 +83,30 @@ impl Trailer {
 /// A base whose trailer holds: the number of roles and the seven tables.
 pub struct Layout<'a> {
     pub roles: u8,
+    /// How the records are to be read.
+    pub reading: Reading,
     tables: [&'a [u8]; 7],
 }
 
 impl<'a> Layout<'a> {
-    pub fn read(base: &'a [u8]) -> Result<Layout<'a>, Refusal> {
+    pub fn read(reading: Reading, base: &'a [u8]) -> Result<Layout<'a>, Refusal> {
         if !(TRAILER_BYTES..=longest()).contains(&base.len()) {
             return Err(Refusal::Length);
         }
         let (tables, trailer) = base.split_at(base.len() - TRAILER_BYTES);
         let trailer = Trailer::read(trailer);
-        if trailer.letters != LETTERS {
+        if !trailer.letters_fit(reading) {
             return Err(Refusal::Letters);
         }
         let roles_fit = (1..=MOST_ROLES).contains(&trailer.roles);
         if !roles_fit || trailer.zeros != [0; 3] || !trailer.fills(tables.len()) {
             return Err(Refusal::Trailer);
         }
-        Ok(Layout::cut(tables, &trailer))
+        Ok(Layout::cut(reading, tables, &trailer))
     }
 
     /// Cuts the bytes before the trailer into tables.
-    fn cut(mut bytes: &'a [u8], trailer: &Trailer) -> Layout<'a> {
+    fn cut(reading: Reading, mut bytes: &'a [u8], trailer: &Trailer) -> Layout<'a> {
         let tables = std::array::from_fn(|table| {
             let count = usize::from(trailer.places[table].1);
             let (records, rest) = bytes.split_at(count * SHAPES[table].0);
@@ -103,6 +115,7 @@ impl<'a> Layout<'a> {
         });
         Layout {
             roles: trailer.roles,
+            reading,
             tables,
         }
     }
@@ -128,8 +141,8 @@ mod tests {
     use super::*;
 
     #[test]
-    fn the_longest_base_has_2364_bytes() {
-        assert_eq!(longest(), 2364);
+    fn the_longest_base_has_2460_bytes() {
+        assert_eq!(longest(), 2460);
     }
 
     fn trailer(counts: [u16; 7], offsets: [u16; 7]) -> Trailer {
@@ -144,17 +157,17 @@ mod tests {
     #[test]
     fn an_empty_table_lies_at_the_running_offset() {
         let counts = [0, 1, 0, 0, 0, 0, 0];
-        assert!(trailer(counts, [0, 0, 4, 4, 4, 4, 4]).fills(4));
-        assert!(!trailer(counts, [0, 0, 0, 4, 4, 4, 4]).fills(4));
-        assert!(!trailer(counts, [0, 0, 4, 4, 4, 4, 0]).fills(4));
+        assert!(trailer(counts, [0, 0, 8, 8, 8, 8, 8]).fills(8));
+        assert!(!trailer(counts, [0, 0, 0, 8, 8, 8, 8]).fills(8));
+        assert!(!trailer(counts, [0, 0, 8, 8, 8, 8, 0]).fills(8));
     }
 
     #[test]
     fn the_tables_end_where_the_trailer_starts() {
-        let one_user = trailer([0, 1, 0, 0, 0, 0, 0], [0, 0, 4, 4, 4, 4, 4]);
-        assert!(!one_user.fills(3));
-        assert!(one_user.fills(4));
-        assert!(!one_user.fills(5));
+        let one_user = trailer([0, 1, 0, 0, 0, 0, 0], [0, 0, 8, 8, 8, 8, 8]);
+        assert!(!one_user.fills(7));
+        assert!(one_user.fills(8));
+        assert!(!one_user.fills(9));
     }
 
     #[test]

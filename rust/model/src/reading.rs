@@ -3,8 +3,8 @@
 /// The paper's reading with the requests', or a wrong one: those that the paper
 /// warns of, and some of the conflict list, of sheets, of who may act as what,
 /// of what a changed weight can shift, of which policy goes before, of what a
-/// withdrawal leaves and of how many codes are tried. A test can take a wrong
-/// one to show that the comparison notices it.
+/// withdrawal leaves, of how many codes are tried and of users' days. A test can
+/// take a wrong one to show that the comparison notices it.
 #[derive(Clone, Copy, Debug, Default, PartialEq, Eq)]
 pub enum Reading {
     #[default]
@@ -121,6 +121,22 @@ pub enum Reading {
     HighestItself,
     /// For a parameter that gets 5 the end of the codes counts as tried too.
     EndCounted,
+    /// A user's days start behind the first day.
+    FirstDayExcluded,
+    /// A user's days end before the last day.
+    LastDayExcluded,
+    /// A decision is refused by 24 before 15.
+    DaysBeforeMembership,
+    /// A decision is refused by 24 after 16.
+    DaysAfterWeight,
+    /// A report considers users whatever their days.
+    DaysForgotten,
+    /// A signing is refused by 24 unless the user's days include date 0.
+    DaysAtSigning,
+    /// A user's first day may be above the last.
+    DaysTurned,
+    /// A base may end in the letters that it had before users had days.
+    OldLetters,
 }
 
 impl Reading {
@@ -206,6 +222,18 @@ impl Reading {
         Reading::RolesCounted,
         Reading::HighestItself,
         Reading::EndCounted,
+    ];
+
+    /// Wrong readings of users' days and of the form that a base has with them.
+    pub const WRONG_OF_DATES: [Reading; 8] = [
+        Reading::FirstDayExcluded,
+        Reading::LastDayExcluded,
+        Reading::DaysBeforeMembership,
+        Reading::DaysAfterWeight,
+        Reading::DaysForgotten,
+        Reading::DaysAtSigning,
+        Reading::DaysTurned,
+        Reading::OldLetters,
     ];
 }
 

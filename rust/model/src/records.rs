@@ -4,6 +4,7 @@
 use crate::fields::Fields;
 use crate::layout::Layout;
 use crate::operator::{Comparison, CONTAINS};
+use crate::reading::Reading;
 use crate::roles::{Role, RoleSet};
 
 /// An H record: one step from a senior role down to a junior.
@@ -23,16 +24,24 @@ impl Edge {
     }
 }
 
-/// A U record: the roles that the user's parameter stands for.
+/// A U record: the roles that the user's parameter stands for, and the user's
+/// days, from the first to the last.
 #[derive(Clone, Debug, PartialEq, Eq)]
 pub struct User {
     pub roles: RoleSet,
+    pub first_day: u16,
+    pub last_day: u16,
 }
 
 impl User {
     pub(crate) fn read(mut fields: Fields, layout: &Layout) -> Option<User> {
-        let roles = RoleSet::from_parameter(fields.long(), layout.roles)?;
-        Some(User { roles })
+        let user = User {
+            roles: RoleSet::from_parameter(fields.long(), layout.roles)?,
+            first_day: fields.short(),
+            last_day: fields.short(),
+        };
+        let turned_allowed = layout.reading == Reading::DaysTurned;
+        (user.first_day <= user.last_day || turned_allowed).then_some(user)
     }
 }
 

@@ -26,6 +26,7 @@ pub enum Refusal {
     NoPolicyOrWeight = 21,
     Resolution = 22,
     NoSignature = 23,
+    OutOfDate = 24,
 }
 
 impl Refusal {

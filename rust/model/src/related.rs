@@ -92,13 +92,19 @@ impl ContextCondition {
     }
 }
 
-/// The same as [`Relations`] says, by trying every context. Slow.
+/// The same as [`Relations`] says, by trying every minute, day and zone. Slow.
+/// No condition reads the date.
 pub fn related_by_trial(base: &Base, first: Option<u8>, second: Option<u8>) -> bool {
     let last = |parameter: Parameter| u32::from(parameter.last());
     for day in 0..=last(Parameter::Day) {
         for zone in 0..=last(Parameter::Zone) {
             for minute in 0..=last(Parameter::Minute) {
-                let at = Context { minute, day, zone };
+                let at = Context {
+                    minute,
+                    day,
+                    zone,
+                    date: 0,
+                };
                 let holds = |number| base.context_holds(number, at, Reading::Paper);
                 if holds(first) && holds(second) {
                     return true;

@@ -7,9 +7,10 @@ use crate::fields::Fields;
 use crate::refusal::Refusal;
 use crate::report::{report, RECORD};
 
-/// The lines for an input: minute in 2 bytes, day, zone and then a base.
+/// The lines for an input: minute in 2 bytes, day, zone, date in 2 bytes and then
+/// a base.
 pub fn render(input: &[u8]) -> String {
-    let Some((at, base)) = input.split_first_chunk::<4>() else {
+    let Some((at, base)) = input.split_first_chunk::<6>() else {
         return lines(Answer::refused(Refusal::Length), &[]);
     };
     let mut fields = Fields::of(at);
@@ -17,6 +18,7 @@ pub fn render(input: &[u8]) -> String {
         minute: fields.short().into(),
         day: fields.byte().into(),
         zone: fields.byte().into(),
+        date: fields.short().into(),
     };
     let permissions = Base::read(base).map_or(0, |base| base.permissions.len());
     let mut records = vec![0; RECORD * permissions];
@@ -54,13 +56,13 @@ mod tests {
     use super::*;
     use crate::samples::SMALL_SHOP;
 
-    /// The lines for a minute, day and zone and a base.
-    fn printed(at: [u8; 4], base: &[u8]) -> String {
+    /// The lines for a minute, day, zone and date and a base.
+    fn printed(at: [u8; 6], base: &[u8]) -> String {
         render(&[&at, base].concat())
     }
 
-    const MINUTE_480: [u8; 4] = [0xe0, 0x01, 0, 0];
-    const MINUTE_1440: [u8; 4] = [0xa0, 0x05, 0, 0];
+    const MINUTE_480: [u8; 6] = [0xe0, 0x01, 0, 0, 0, 0];
+    const MINUTE_1440: [u8; 6] = [0xa0, 0x05, 0, 0, 0, 0];
 
     #[test]
     fn the_papers_example() {
@@ -68,10 +70,26 @@ mod tests {
         assert_eq!(text, "permission 0: 2 0/0 1/1\nreleasable 1\n");
     }
 
+    /// The buyer's last day is 300: from the next one on the manager needs
+    /// another user, and by 480 there is none with weight.
+    #[test]
+    fn the_date_is_read_in_two_bytes_behind_the_zone() {
+        let mut shop = SMALL_SHOP;
+        (shop[18], shop[19]) = (0x2c, 0x01);
+        let on = |date: u16| {
+            let [low, high] = date.to_le_bytes();
+            printed([0xe0, 0x01, 0, 0, low, high], &shop)
+        };
+        let granted = "permission 0: 2 0/0 1/1\nreleasable 1\n";
+        assert_eq!([0, 1, 299, 300].map(on), [granted; 4]);
+        let refused = "permission 0: 0\nreleasable 0\n";
+        assert_eq!([301, 0x2d2c, 65_535].map(on), [refused; 3]);
+    }
+
     #[test]
     fn a_permission_that_nobody_can_release() {
         let mut shop = SMALL_SHOP;
-        shop[29] = 6;
+        shop[45] = 6;
         let text = printed(MINUTE_480, &shop);
         assert_eq!(text, "permission 0: 0\nreleasable 0\n");
     }
@@ -80,14 +98,14 @@ mod tests {
     fn a_base_without_permissions() {
         let mut base = [0; 36];
         base[28] = 1;
-        base[32..].copy_from_slice(b"LCAP");
+        base[32..].copy_from_slice(b"LCAQ");
         assert_eq!(printed(MINUTE_480, &base), "releasable 0\n");
         assert_eq!(printed(MINUTE_1440, &base), "refused 11\n");
     }
 
     #[test]
     fn short_input_is_refused() {
-        for length in 0..=4 {
+        for length in 0..=6 {
             assert_eq!(render(&MINUTE_480[..length]), "refused 1\n");
         }
         assert_eq!(render(&MINUTE_1440), "refused 1\n");
@@ -97,8 +115,9 @@ mod tests {
     fn a_refused_base_comes_before_the_context() {
         assert_eq!(printed(MINUTE_1440, &SMALL_SHOP), "refused 11\n");
         assert_eq!(printed(MINUTE_1440, &SMALL_SHOP[1..]), "refused 3\n");
-        assert_eq!(printed([0, 0, 7, 0], &SMALL_SHOP), "refused 11\n");
-        assert_eq!(printed([0, 0, 6, 255], &SMALL_SHOP).lines().count(), 2);
+        assert_eq!(printed([0, 0, 7, 0, 0, 0], &SMALL_SHOP), "refused 11\n");
+        let last = printed([0x9f, 0x05, 6, 255, 255, 255], &SMALL_SHOP);
+        assert_eq!(last.lines().count(), 2);
     }
 
     #[test]

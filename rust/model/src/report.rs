@@ -55,7 +55,7 @@ fn groups_to_show(
     list: Option<&[u8]>,
     room: usize,
 ) -> Result<Vec<Vec<Entry>>, Refusal> {
-    let base = Base::read(base)?;
+    let base = Base::read_as(reading, base)?;
     let lent = Resolution::lent(reading, list)?;
     let resolution = match reading {
         Reading::ListIgnored => Resolution::none(),
@@ -105,7 +105,7 @@ mod tests {
     #[test]
     fn a_group_is_not_shown_where_none_is_granted() {
         let mut shop = SMALL_SHOP;
-        shop[29] = 6;
+        shop[45] = 6;
         let mut out = [7; 13];
         assert_eq!(report(&shop, at_minute(480), &mut out), Answer::done(0));
         assert_eq!(out[0], 0);
@@ -173,8 +173,8 @@ mod tests {
     /// 1 and from day 1 on.
     fn later_policy_behind() -> Vec<u8> {
         let mut base = SMALL_SHOP.to_vec();
-        (base[100], base[102]) = (4, 86);
-        base.splice(78..78, [0, 0, 1, 0, 255, 0, 1, 0]);
+        (base[116], base[118]) = (4, 102);
+        base.splice(94..94, [0, 0, 1, 0, 255, 0, 1, 0]);
         base
     }
 
@@ -188,6 +188,27 @@ mod tests {
         assert_eq!(refused_as(wrong, &base, 480, Some(&[]), 13), 22);
     }
 
+    /// The small shop's k by a reading at minute 600 on date 300, where the
+    /// manager's last day is this one. Without the manager, who weighs 5, the
+    /// buyer's 2 and both clerks' 1 don't suffice.
+    fn with_managers_last_day(reading: Reading, day: u16) -> u8 {
+        let mut base = SMALL_SHOP;
+        base[10..12].copy_from_slice(&day.to_le_bytes());
+        let mut out = [7; 13];
+        let answer = report_as(reading, &base, at_minute(600), None, &mut out);
+        assert_eq!((answer.refusal, answer.count), (0, u32::from(out[0] > 0)));
+        out[0]
+    }
+
+    #[test]
+    fn only_users_who_come_on_the_date_are_considered() {
+        let days = [0, 299, 300, 301, 65_535];
+        let paper = days.map(|day| with_managers_last_day(Reading::Paper, day));
+        assert_eq!(paper, [0, 0, 2, 2, 2]);
+        let forgotten = days.map(|day| with_managers_last_day(Reading::DaysForgotten, day));
+        assert_eq!(forgotten, [2; 5]);
+    }
+
     #[test]
     fn an_exact_buffer_suffices() {
         let mut out = [7; 13];
@@ -198,7 +219,7 @@ mod tests {
     fn without_permissions_there_is_nothing_to_write() {
         let mut base = [0; 36];
         base[28] = 8;
-        base[32..].copy_from_slice(b"LCAP");
+        base[32..].copy_from_slice(b"LCAQ");
         assert_eq!(report(&base, at_minute(0), &mut []), Answer::done(0));
     }
 
@@ -208,7 +229,7 @@ mod tests {
         let mut out = [7; 27];
         assert_eq!(report(&base, at_minute(600), &mut out), Answer::done(1));
         assert_eq!((out[0], out[13], out[26]), (0, 2, 7));
-        base[24] = 0;
+        base[40] = 0;
         assert_eq!(report(&base, at_minute(600), &mut out), Answer::done(0));
         assert_eq!((out[0], out[13]), (0, 0));
     }
@@ -216,15 +237,15 @@ mod tests {
     /// The small shop with a permission put before its own.
     fn two_permissions() -> Vec<u8> {
         let mut base = SMALL_SHOP.to_vec();
-        for policy in [54, 62, 70] {
+        for policy in [70, 78, 86] {
             base[policy + 1] = 1;
         }
-        base[22] = 1;
-        for offset in [90, 94, 98, 102] {
+        base[38] = 1;
+        for offset in [106, 110, 114, 118] {
             base[offset] += 2;
         }
-        base[88] = 2;
-        base.splice(20..20, [0, 0]);
+        base[104] = 2;
+        base.splice(36..36, [0, 0]);
         base
     }
 }

@@ -8,11 +8,14 @@ use crate::roles::{Role, RoleSet};
 
 /// The small shop: its tables from byte 0, then the trailer.
 #[rustfmt::skip]
-pub const SMALL_SHOP: [u8; 114] = [
+pub const SMALL_SHOP: [u8; 130] = [
     // H
     0, 1, 1, 2,
-    // U
-    3, 0, 0, 0, 5, 0, 0, 0, 7, 0, 0, 0, 7, 0, 0, 0,
+    // U: parameters, days 0 and 65535
+    3, 0, 0, 0,  0, 0, 0xff, 0xff,
+    5, 0, 0, 0,  0, 0, 0xff, 0xff,
+    7, 0, 0, 0,  0, 0, 0xff, 0xff,
+    7, 0, 0, 0,  0, 0, 0xff, 0xff,
     // P
     1, 1,
     // K
@@ -24,10 +27,10 @@ pub const SMALL_SHOP: [u8; 114] = [
     1, 0, 1, 1, 255, 0, 0, 0,
     2, 0, 1, 1, 0, 0, 0, 0,
     // offsets and counts
-    0, 0, 2, 0,  4, 0, 4, 0,  20, 0, 1, 0,  22, 0, 1, 0,
-    38, 0, 1, 0,  54, 0, 3, 0,  78, 0, 0, 0,
+    0, 0, 2, 0,  4, 0, 4, 0,  36, 0, 1, 0,  38, 0, 1, 0,
+    54, 0, 1, 0,  70, 0, 3, 0,  94, 0, 0, 0,
     // R, zero bytes, letters
-    3, 0, 0, 0, b'L', b'C', b'A', b'P',
+    3, 0, 0, 0, b'L', b'C', b'A', b'Q',
 ];
 
 /// Its users as entries, each in the role held.
@@ -41,7 +44,7 @@ pub fn small_shop() -> Base {
 }
 
 /// A base of three roles, one permission and eight users with these
-/// parameters.
+/// parameters, each of all days.
 pub fn eight_users(parameters: [u32; 8]) -> Vec<u8> {
     eight_ranked_users(&[], parameters)
 }
@@ -49,7 +52,7 @@ pub fn eight_users(parameters: [u32; 8]) -> Vec<u8> {
 /// The same with these H records.
 pub fn eight_ranked_users(hierarchy: &[[u8; 2]], parameters: [u32; 8]) -> Vec<u8> {
     let users = 2 * hierarchy.len() as u16;
-    let permissions = users + 32;
+    let permissions = users + 64;
     let end = permissions + 2;
     let records = hierarchy.len() as u16;
     let places = [
@@ -61,11 +64,12 @@ pub fn eight_ranked_users(hierarchy: &[[u8; 2]], parameters: [u32; 8]) -> Vec<u8
         [end, 0],
         [end, 0],
     ];
-    let parameters = parameters.map(u32::to_le_bytes).concat();
+    let of_user = |parameter: u32| [parameter.to_le_bytes(), [0, 0, 0xff, 0xff]].concat();
+    let user_records = parameters.map(of_user).concat();
     let places = places.as_flattened().iter();
     let places: Vec<u8> = places.flat_map(|place| place.to_le_bytes()).collect();
-    let tables = [hierarchy.as_flattened(), &parameters, &[1, 1]].concat();
-    [&tables[..], &places, &[3, 0, 0, 0], b"LCAP"].concat()
+    let tables = [hierarchy.as_flattened(), &user_records, &[1, 1]].concat();
+    [&tables[..], &places, &[3, 0, 0, 0], b"LCAQ"].concat()
 }
 
 /// A base without records.
@@ -82,11 +86,17 @@ pub fn empty_base(roles: u8) -> Base {
     }
 }
 
+/// The date of the samples' contexts. Some users of random bases have days that
+/// start or end at it or beside it.
+pub const DATE: u16 = 300;
+
+/// A context of day and zone 0 on that date.
 pub fn at_minute(minute: u32) -> Context {
     Context {
         minute,
         day: 0,
         zone: 0,
+        date: DATE.into(),
     }
 }
 
@@ -94,9 +104,14 @@ pub fn edge(senior: Role, junior: Role) -> Edge {
     Edge { senior, junior }
 }
 
+/// A user of all days.
 pub fn user(roles: &[Role]) -> User {
     let roles = roles.iter().fold(RoleSet::default(), |set, &r| set.with(r));
-    User { roles }
+    User {
+        roles,
+        first_day: 0,
+        last_day: u16::MAX,
+    }
 }
 
 /// A policy for permission 0.
@@ -216,9 +231,25 @@ pub fn random_base(draws: &mut Draws, most_users: usize) -> Base {
 
 fn random_user(draws: &mut Draws, roles: u8) -> User {
     let set = RoleSet::from_bits(draws.byte(0, 255) >> (8 - roles), roles);
+    let (first_day, last_day) = random_days(draws);
     User {
         roles: set.expect("the roles are there"),
+        first_day,
+        last_day,
     }
+}
+
+/// Mostly days that include the date, all of them or few.
+fn random_days(draws: &mut Draws) -> (u16, u16) {
+    let days = [
+        (0, u16::MAX),
+        (0, DATE),
+        (DATE, DATE),
+        (DATE, u16::MAX),
+        (0, DATE - 1),
+        (DATE + 1, u16::MAX),
+    ];
+    days[draws.below(16).saturating_sub(10)]
 }
 
 fn random_policy(draws: &mut Draws, roles: u8) -> Policy {

@@ -23,7 +23,7 @@ pub fn sheet_open(base: &[u8], permission: u32, sheet: &mut Sheet) -> u8 {
 
 /// The opening by this reading.
 pub fn sheet_open_as(reading: Reading, base: &[u8], permission: u32, sheet: &mut Sheet) -> u8 {
-    let opened = Base::read(base).and_then(|base| {
+    let opened = Base::read_as(reading, base).and_then(|base| {
         let permission = base.permission(permission);
         permission.ok_or(Refusal::NoPermission)
     });
@@ -43,7 +43,8 @@ pub fn sheet_sign(base: &[u8], user: u32, role: u32, sheet: &mut Sheet) -> u8 {
 
 /// The signing by this reading.
 pub fn sheet_sign_as(reading: Reading, base: &[u8], user: u32, role: u32, sheet: &mut Sheet) -> u8 {
-    let entry = Base::read(base).and_then(|base| new_entry(reading, &base, user, role, sheet));
+    let base = Base::read_as(reading, base);
+    let entry = base.and_then(|base| new_entry(reading, &base, user, role, sheet));
     if let Ok(entry) = entry {
         let count = held(reading, sheet).len() / 2;
         sheet[1] = count as u8 + 1;
@@ -131,6 +132,8 @@ fn new_entry(
     refuse_if(signed, Refusal::UserTwice)?;
     let may_act = Acting::by(reading, base).may_act(entry.user, entry.role);
     refuse_if(!may_act, Refusal::Membership)?;
+    let out_of_date = reading == Reading::DaysAtSigning && !base.comes_on(reading, entry.user, 0);
+    refuse_if(out_of_date, Refusal::OutOfDate)?;
     refuse_if(full, Refusal::SheetFull)?;
     Ok(entry)
 }
@@ -342,6 +345,32 @@ mod tests {
             let answer = sheet_ask(&SMALL_SHOP, at_minute(600), &sheet);
             assert_eq!(answer, 13);
         }
+    }
+
+    /// The manager's first day is 1, and a clerk's last day 299.
+    #[test]
+    fn signing_knows_no_days_and_asking_does() {
+        let mut base = SMALL_SHOP;
+        base[8] = 1;
+        (base[26], base[27]) = (0x2b, 0x01);
+        let mut sheet = [0; 14];
+        assert_eq!(sheet_sign(&base, 0, 0, &mut sheet), 0);
+        assert_eq!(sheet_sign(&base, 2, 2, &mut sheet), 0);
+        let on = |date| {
+            let at = Context {
+                date,
+                ..at_minute(600)
+            };
+            sheet_ask(&base, at, &sheet)
+        };
+        assert_eq!([0, 1, 299, 300, 65_536].map(on), [24, 0, 0, 24, 11]);
+        let wrong = Reading::DaysAtSigning;
+        let mut unsigned = [0; 14];
+        assert_eq!(sheet_sign_as(wrong, &base, 0, 0, &mut unsigned), 24);
+        assert_eq!(unsigned, [0; 14]);
+        assert_eq!(sheet_sign_as(wrong, &base, 0, 0, &mut sheet), 14);
+        assert_eq!(sheet_sign_as(wrong, &base, 2, 1, &mut unsigned), 15);
+        assert_eq!(sheet_sign_as(wrong, &base, 2, 2, &mut unsigned), 0);
     }
 
     #[test]

@@ -275,7 +275,7 @@ mod tests {
     fn both_ways_agree_by_every_list() {
         let mut draws = Draws::new(7);
         let (mut seen, mut others) = ([0; 7], 0);
-        for _ in 0..600 {
+        for _ in 0..1_200 {
             let base = random_rivals(&mut draws, 4);
             let without = smallest_of(&base);
             for list in LISTS {
@@ -290,6 +290,35 @@ mod tests {
         }
         assert!(seen[..5].iter().all(|&times| times > 0), "{seen:?}");
         assert!(others >= 100, "{others}");
+    }
+
+    /// By day the manager weighs 5, the buyer 2 and a clerk 1.
+    #[test]
+    fn a_number_rises_when_a_users_days_end() {
+        let mut shop = small_shop();
+        shop.group_clauses = vec![group_clause(&[Compare(TotalWeight, AtLeast, 4)])];
+        assert_eq!(smallest_of(&shop), 1);
+        shop.users[0].last_day = DATE - 1;
+        assert_eq!(smallest_of(&shop), 3);
+        shop.users[3].first_day = DATE + 1;
+        assert_eq!(smallest_of(&shop), 0);
+    }
+
+    /// Those of other days bring no group, and none that is smaller.
+    #[test]
+    fn only_users_who_come_on_the_date_count() {
+        let mut draws = Draws::new(8);
+        let mut others = 0;
+        for _ in 0..3_000 {
+            let base = random_base(&mut draws, 6);
+            let mut who_come = base.clone();
+            who_come.users.retain(|user| user.comes_on(DATE.into()));
+            let by = |base, reading| length(smallest_group(&question(base, reading)));
+            let k = by(&base, Reading::Paper);
+            assert_eq!(k, by(&who_come, Reading::DaysForgotten));
+            others += usize::from(k != by(&base, Reading::DaysForgotten));
+        }
+        assert!(others >= 20, "{others}");
     }
 
     /// Asks about every group of so many entries: users and roles up to one

@@ -46,30 +46,33 @@ pub fn check(base: &[u8]) -> u32 {
 }
 
 /// The decision for a group: 0 if it is granted the permission, or the first
-/// of refusals 1 to 17 that applies.
+/// of refusals 1 to 15, 24, 16 and 17 that applies.
 ///
 /// ```
 /// use release::example::SMALL_SHOP;
 /// use release::{answers, Context};
 ///
-/// let at = Context::new(600, 0, 0);
+/// let at = Context::new(600, 0, 0, 900);
 /// assert_eq!(answers::decide(&SMALL_SHOP, 0, at, &[0, 0, 2, 2]), 0);
 /// assert_eq!(answers::decide(&SMALL_SHOP, 256, at, &[0, 0, 2, 2]), 10);
+///
+/// let no_date = Context::new(600, 0, 0, 65_536);
+/// assert_eq!(answers::decide(&SMALL_SHOP, 0, no_date, &[0, 0, 2, 2]), 11);
 /// ```
 pub fn decide(base: &[u8], permission: u32, at: Context, group: &[u8]) -> u32 {
     library::decide(base, permission, at, group)
 }
 
 /// The same by a resolution list, whose bytes are rules: 0 if the group is
-/// granted the permission, or the first of refusals 1 to 9, 22, 10, 11 and 12 to
-/// 17 that applies. An empty list is refused by 22; without a list it is
+/// granted the permission, or the first of refusals 1 to 9, 22, 10 to 15, 24, 16
+/// and 17 that applies. An empty list is refused by 22; without a list it is
 /// [`decide`].
 ///
 /// ```
 /// use release::example::SMALL_SHOP;
 /// use release::{answers, Context};
 ///
-/// let at = Context::new(600, 0, 0);
+/// let at = Context::new(600, 0, 0, 900);
 /// let by = |list: &[u8]| answers::decide_by(&SMALL_SHOP, 0, at, list, &[0, 0, 2, 2]);
 /// assert_eq!(by(&[0, 2]), 0);
 /// assert_eq!(by(&[]), 22);
@@ -82,15 +85,16 @@ pub fn decide_by(base: &[u8], permission: u32, at: Context, list: &[u8], group: 
 
 /// Writes 13 bytes for each permission into the buffer's first bytes: the
 /// number of a smallest group's entries, the group and 255 in every byte left.
-/// The answer is 0 and the number of permissions that have a group, or the
-/// first of refusals 1 to 9, 11 and 19 that applies and 0. No refusal writes.
+/// Users whose days don't include the date are in no group. The answer is 0 and
+/// the number of permissions that have a group, or the first of refusals 1 to 9,
+/// 11 and 19 that applies and 0. No refusal writes.
 ///
 /// ```
 /// use release::answers::{self, Answer};
 /// use release::example::SMALL_SHOP;
 /// use release::Context;
 ///
-/// let at = Context::new(480, 0, 0);
+/// let at = Context::new(480, 0, 0, 900);
 /// let mut out = [7; 14];
 /// let done = Answer { refusal: 0, count: 1 };
 /// assert_eq!(answers::report(&SMALL_SHOP, at, &mut out), done);
@@ -112,7 +116,7 @@ pub fn report(base: &[u8], at: Context, out: &mut [u8]) -> Answer {
 /// use release::example::SMALL_SHOP;
 /// use release::Context;
 ///
-/// let at = Context::new(480, 0, 0);
+/// let at = Context::new(480, 0, 0, 900);
 /// let mut out = [7; 14];
 /// let done = Answer { refusal: 0, count: 1 };
 /// assert_eq!(answers::report_by(&SMALL_SHOP, at, &[1], &mut out), done);
@@ -138,7 +142,7 @@ pub fn report_by(base: &[u8], at: Context, list: &[u8], out: &mut [u8]) -> Answe
 ///
 /// // The manager's policy made a second one of the buyer.
 /// let mut shop = SMALL_SHOP;
-/// shop[54] = 1;
+/// shop[70] = 1;
 /// let too_short = Answer { refusal: 18, count: 1 };
 /// assert_eq!(answers::conflicts(&shop, &mut []), too_short);
 /// ```
@@ -205,8 +209,8 @@ pub fn sheet_open(base: &[u8], permission: u32, sheet: &mut [u8; SHEET_BYTES]) -
 
 /// Takes a signature on a sheet: 0, or the first of refusals 1 to 9, 13, 14, 15
 /// and 20 that applies. 13 to 15 are for the new entry alone; it gets 14 if its
-/// user is on the sheet, in whatever role. The entry is written behind those
-/// that the sheet holds and counted; no refusal writes.
+/// user is on the sheet, in whatever role. No date is looked at. The entry is
+/// written behind those that the sheet holds and counted; no refusal writes.
 ///
 /// ```
 /// use release::answers;
@@ -253,7 +257,7 @@ pub fn sheet_withdraw(user: u32, sheet: &mut [u8; SHEET_BYTES]) -> u32 {
 /// use release::example::SMALL_SHOP;
 /// use release::{answers, Context};
 ///
-/// let at = Context::new(600, 0, 0);
+/// let at = Context::new(600, 0, 0, 900);
 /// let signed = [0, 2, 0, 0, 2, 2, 0, 0, 0, 0, 0, 0, 0, 0];
 /// assert_eq!(answers::sheet_ask(&SMALL_SHOP, at, &signed), 0);
 ///

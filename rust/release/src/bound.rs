@@ -16,7 +16,7 @@ use crate::refusal::{result_of, Refusal};
 ///
 /// The bound is the difference of the two weights times the number of entries
 /// whose role is the policy's or senior to it, whatever the policy's type,
-/// permission and context. It is at most 24.
+/// permission and context. It is at most 24. The users' days play no part.
 ///
 /// ```
 /// use release::example::SMALL_SHOP;

@@ -26,7 +26,7 @@ pub enum Conflict {
         /// The second policy's number.
         second: u8,
     },
-    /// Kind 3: a user who holds both roles of an exclusion.
+    /// Kind 3: a user who holds both roles of an exclusion, on whatever days.
     Roles {
         /// The user's number.
         user: u8,
@@ -85,7 +85,7 @@ impl Conflict {
 ///
 /// // The manager's policy made a second one of the buyer.
 /// let mut shop = SMALL_SHOP;
-/// shop[54] = 1;
+/// shop[70] = 1;
 /// let pair = Conflict::Policies { first: 0, second: 1 };
 /// assert_eq!(conflicts(&shop), Ok(vec![pair]));
 /// ```
@@ -131,7 +131,7 @@ pub fn conflict_count(base: &[u8]) -> Result<usize, Refusal> {
 ///
 /// // The manager's policy made a second one of the buyer.
 /// let mut shop = SMALL_SHOP;
-/// shop[54] = 1;
+/// shop[70] = 1;
 /// let mut buffer = [7; 4];
 /// assert_eq!(conflicts_into(&shop, &mut buffer), Ok(1));
 /// assert_eq!(buffer, [1, 0, 1, 7]);
@@ -149,10 +149,10 @@ mod tests {
     use crate::example::SMALL_SHOP;
 
     /// The small shop with its three policies made the buyer's.
-    fn three_conflicts() -> [u8; 114] {
+    fn three_conflicts() -> [u8; 130] {
         let mut shop = SMALL_SHOP;
-        (shop[54], shop[62], shop[70]) = (1, 1, 1);
-        (shop[56], shop[64], shop[72]) = (1, 2, 3);
+        (shop[70], shop[78], shop[86]) = (1, 1, 1);
+        (shop[72], shop[80], shop[88]) = (1, 2, 3);
         shop
     }
 

@@ -1,15 +1,18 @@
 //! A base to try the functions on.
 
 /// The small shop: three roles (0 manager, 1 buyer, 2 clerk), a manager, a
-/// buyer and two clerks as users 0 to 3, and one permission, which needs two
-/// approvers or more whose weights sum up to 5 or more. By day, from minute
-/// 540 to 1020, the roles weigh 5, 2 and 1; else 4, 1 and 0.
+/// buyer and two clerks as users 0 to 3 on all days, and one permission, which
+/// needs two approvers or more whose weights sum up to 5 or more. By day, from
+/// minute 540 to 1020, the roles weigh 5, 2 and 1; else 4, 1 and 0.
 #[rustfmt::skip]
-pub const SMALL_SHOP: [u8; 114] = [
+pub const SMALL_SHOP: [u8; 130] = [
     // H: the manager is over the buyer, the buyer over the clerk
     0, 1,  1, 2,
-    // U: by their roles' codes
-    3, 0, 0, 0,  5, 0, 0, 0,  7, 0, 0, 0,  7, 0, 0, 0,
+    // U: by their roles' codes, from day 0 to day 65535
+    3, 0, 0, 0,  0, 0,  255, 255,
+    5, 0, 0, 0,  0, 0,  255, 255,
+    7, 0, 0, 0,  0, 0,  255, 255,
+    7, 0, 0, 0,  0, 0,  255, 255,
     // P
     1, 1,
     // K: two entries or more, and a sum of 5 or more
@@ -21,8 +24,8 @@ pub const SMALL_SHOP: [u8; 114] = [
     1, 0, 1, 1, 255, 0, 0, 0,
     2, 0, 1, 1, 0, 0, 0, 0,
     // no X; the trailer: offset and number of records of each table
-    0, 0, 2, 0,  4, 0, 4, 0,  20, 0, 1, 0,  22, 0, 1, 0,
-    38, 0, 1, 0,  54, 0, 3, 0,  78, 0, 0, 0,
+    0, 0, 2, 0,  4, 0, 4, 0,  36, 0, 1, 0,  38, 0, 1, 0,
+    54, 0, 1, 0,  70, 0, 3, 0,  94, 0, 0, 0,
     // the number of roles, and the letters
-    3, 0, 0, 0,  b'L', b'C', b'A', b'P',
+    3, 0, 0, 0,  b'L', b'C', b'A', b'Q',
 ];

@@ -1,11 +1,11 @@
 //! The release decider for shelf labels: a safe wrapper over the proved
 //! library.
 //!
-//! A policy base says who holds which role, which role is senior to which, what
-//! each role weighs for a permission, and which groups may release it. A user
-//! may act in a role that the user holds, or that is junior to one that the user
-//! holds. The library answers these questions about a base, for any bytes
-//! whatever, and one about a parameter alone:
+//! A policy base says who holds which role, from which day to which, which role
+//! is senior to which, what each role weighs for a permission, and which groups
+//! may release it. A user may act in a role that the user holds, or that is
+//! junior to one that the user holds. The library answers these questions about a
+//! base, for any bytes whatever, and one about a parameter alone:
 //!
 //! | function | question |
 //! |---|---|
@@ -26,7 +26,7 @@
 //! use release::example::SMALL_SHOP;
 //! use release::{decide, Context, Entry, Refusal};
 //!
-//! let by_day = Context::new(600, 0, 0);
+//! let by_day = Context::new(600, 0, 0, 900);
 //! let manager = Entry::new(0, 0);
 //! let clerk = Entry::new(2, 2);
 //! assert_eq!(decide(&SMALL_SHOP, 0, by_day, &[manager, clerk]), Ok(()));
@@ -71,10 +71,11 @@ pub use resolution::{Resolution, Rule, LONGEST_RESOLUTION};
 pub use sheet::{Sheet, SHEET_BYTES};
 
 /// The most bytes that a base can have.
-pub const LONGEST_BASE: usize = 2_364;
+pub const LONGEST_BASE: usize = 2_460;
 
 /// Whether these bytes are a policy base: the first of refusals 1 to 9 that
-/// applies, if one does.
+/// applies, if one does. A base from before users had days has other letters and
+/// gets [`Refusal::Letters`].
 ///
 /// ```
 /// use release::example::SMALL_SHOP;

@@ -15,6 +15,7 @@ mod foreign {
             minute: u32,
             day: u32,
             zone: u32,
+            date: u32,
             group: *const u8,
             group_len: usize,
         ) -> u32;
@@ -26,6 +27,7 @@ mod foreign {
             minute: u32,
             day: u32,
             zone: u32,
+            date: u32,
             list: *const u8,
             list_len: usize,
             group: *const u8,
@@ -38,6 +40,7 @@ mod foreign {
             minute: u32,
             day: u32,
             zone: u32,
+            date: u32,
             out: *mut u8,
             out_len: usize,
         ) -> u64;
@@ -48,6 +51,7 @@ mod foreign {
             minute: u32,
             day: u32,
             zone: u32,
+            date: u32,
             list: *const u8,
             list_len: usize,
             out: *mut u8,
@@ -95,6 +99,7 @@ mod foreign {
             minute: u32,
             day: u32,
             zone: u32,
+            date: u32,
             sheet: *const u8,
         ) -> u32;
     }
@@ -117,6 +122,7 @@ pub fn decide(base: &[u8], permission: u32, at: Context, group: &[u8]) -> u32 {
             at.minute,
             at.day,
             at.zone,
+            at.date,
             group.as_ptr(),
             group.len(),
         )
@@ -134,6 +140,7 @@ pub fn decide_by(base: &[u8], permission: u32, at: Context, list: &[u8], group: 
             at.minute,
             at.day,
             at.zone,
+            at.date,
             list.as_ptr(),
             list.len(),
             group.as_ptr(),
@@ -154,6 +161,7 @@ pub fn report(base: &[u8], at: Context, out: &mut [u8]) -> u64 {
             at.minute,
             at.day,
             at.zone,
+            at.date,
             out.as_mut_ptr(),
             out.len(),
         )
@@ -172,6 +180,7 @@ pub fn report_by(base: &[u8], at: Context, list: &[u8], out: &mut [u8]) -> u64 {
             at.minute,
             at.day,
             at.zone,
+            at.date,
             list.as_ptr(),
             list.len(),
             out.as_mut_ptr(),
@@ -244,6 +253,7 @@ pub fn sheet_ask(base: &[u8], at: Context, sheet: &[u8; SHEET_BYTES]) -> u32 {
             at.minute,
             at.day,
             at.zone,
+            at.date,
             sheet.as_ptr(),
         )
     }

@@ -15,7 +15,7 @@ pub struct Tried {
 
 /// Whether this is a user's parameter where there are so many roles: a product
 /// of different codes of roles below that number, or 1 for no role. And how many
-/// codes the check tries. No base is consulted.
+/// codes the check tries. No base is consulted, and a user's days play no part.
 ///
 /// Roles 0 to 7 have the codes 3, 5, 7, 11, 13, 17, 19 and 23. The check tries
 /// them in this order, divides out each one that divides what is left of the

@@ -4,16 +4,17 @@ use std::error::Error;
 use std::fmt;
 
 /// Why a call is refused, by number. Each call's documentation says which it can
-/// give; they are checked in rising order, but for 22, which comes after 9. The
-/// tables of a base are H (hierarchy), U (users), P (permissions), K (group
-/// clauses), C (context clauses), A (policies) and X (exclusions); R is the
-/// number of roles.
+/// give; they are checked in rising order, but for 22, which comes after 9, and
+/// 24, which comes after 15. The tables of a base are H (hierarchy), U (users), P
+/// (permissions), K (group clauses), C (context clauses), A (policies) and X
+/// (exclusions); R is the number of roles.
 #[derive(Clone, Copy, Debug, PartialEq, Eq, Hash)]
 #[non_exhaustive]
 pub enum Refusal {
-    /// 1: the base is shorter than 36 or longer than 2,364 bytes.
+    /// 1: the base is shorter than 36 or longer than 2,460 bytes.
     Length = 1,
-    /// 2: the base's last four bytes aren't LCAP.
+    /// 2: the base's last four bytes aren't LCAQ, as they aren't where users have
+    /// no days.
     Letters = 2,
     /// 3: the rest of the trailer breaks its rules, a count is above its
     /// limit, or the tables don't fill the bytes before it in order.
@@ -21,7 +22,7 @@ pub enum Refusal {
     /// 4: an H record has senior not below junior, or junior not below R.
     Hierarchy = 4,
     /// 5: a user's parameter is no product of different codes of roles below
-    /// R.
+    /// R, or the first day is above the last.
     Users = 5,
     /// 6: a K record breaks its rules or names a permission that isn't in P.
     GroupClauses = 6,
@@ -34,7 +35,7 @@ pub enum Refusal {
     Exclusions = 9,
     /// 10: the permission isn't in P.
     NoPermission = 10,
-    /// 11: minute, day or zone is out of range.
+    /// 11: minute, day, zone or date is out of range.
     Context = 11,
     /// 12: the group's length is 0, odd or above 12.
     GroupLength = 12,
@@ -63,11 +64,14 @@ pub enum Refusal {
     Resolution = 22,
     /// 23: the user has no entry on the sheet.
     NoSignature = 23,
+    /// 24: the date is before the first or after the last day of an entry's
+    /// user. It comes after 15 and before 16.
+    OutOfDate = 24,
 }
 
 impl Refusal {
     /// Every refusal, by number.
-    pub const ALL: [Refusal; 23] = [
+    pub const ALL: [Refusal; 24] = [
         Refusal::Length,
         Refusal::Letters,
         Refusal::Trailer,
@@ -91,9 +95,10 @@ impl Refusal {
         Refusal::NoPolicyOrWeight,
         Refusal::Resolution,
         Refusal::NoSignature,
+        Refusal::OutOfDate,
     ];
 
-    /// The refusal's number, 1 to 23.
+    /// The refusal's number, 1 to 24.
     ///
     /// ```
     /// assert_eq!(release::Refusal::UserTwice.number(), 14);
@@ -124,8 +129,8 @@ impl Refusal {
     /// ```
     pub fn meaning(self) -> &'static str {
         match self {
-            Refusal::Length => "the base is shorter than 36 or longer than 2,364 bytes",
-            Refusal::Letters => "the base's last four bytes aren't LCAP",
+            Refusal::Length => "the base is shorter than 36 or longer than 2,460 bytes",
+            Refusal::Letters => "the base's last four bytes aren't LCAQ",
             Refusal::Trailer => {
                 "the rest of the trailer breaks its rules, a count is above its limit, \
                  or the tables don't fill the bytes before it in order"
@@ -135,7 +140,8 @@ impl Refusal {
                  the number of roles"
             }
             Refusal::Users => {
-                "a user's parameter is no product of different codes of the base's roles"
+                "a user's parameter is no product of different codes of the base's roles, \
+                 or the first day is above the last"
             }
             Refusal::GroupClauses => {
                 "a group clause breaks its rules or names a permission that isn't there"
@@ -146,7 +152,7 @@ impl Refusal {
                 "an exclusion breaks its rules, or its second role or permission isn't there"
             }
             Refusal::NoPermission => "the base has no permission of that number",
-            Refusal::Context => "minute, day or zone is out of range",
+            Refusal::Context => "minute, day, zone or date is out of range",
             Refusal::GroupLength => "the group's length is 0, odd or above 12",
             Refusal::NoUserOrRole => "the base has no user or no role of an entry's number",
             Refusal::UserTwice => {
@@ -171,6 +177,9 @@ impl Refusal {
                  holds another byte"
             }
             Refusal::NoSignature => "the user has no entry on the sheet",
+            Refusal::OutOfDate => {
+                "the date is before the first or after the last day of an entry's user"
+            }
         }
     }
 }
@@ -193,7 +202,7 @@ impl Error for Refusal {}
 pub(crate) fn result_of(answer: u32) -> Result<(), Refusal> {
     match answer {
         0 => Ok(()),
-        _ => Err(Refusal::from_number(answer).expect("the library answers 0 to 23")),
+        _ => Err(Refusal::from_number(answer).expect("the library answers 0 to 24")),
     }
 }
 
@@ -209,7 +218,7 @@ mod tests {
             assert_eq!(result_of(number), Err(refusal));
         }
         assert_eq!(result_of(0), Ok(()));
-        assert_eq!(Refusal::from_number(24), None);
+        assert_eq!(Refusal::from_number(25), None);
     }
 
     #[test]
@@ -228,7 +237,7 @@ mod tests {
         let error = passed_on().expect_err("it is refused");
         assert_eq!(
             error.to_string(),
-            "refusal 2: the base's last four bytes aren't LCAP"
+            "refusal 2: the base's last four bytes aren't LCAQ"
         );
     }
 }

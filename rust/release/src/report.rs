@@ -19,7 +19,8 @@ const MOST_APPROVERS: u8 = 6;
 /// this.
 const UNWRITTEN: u8 = 255;
 
-/// A release report: for each permission a smallest group that can release it.
+/// A release report: for each permission a smallest group that can release it
+/// in the context.
 #[derive(Clone, Debug, PartialEq, Eq)]
 pub struct Report {
     count: usize,
@@ -33,7 +34,7 @@ impl Report {
     /// use release::example::SMALL_SHOP;
     /// use release::{report, Context};
     ///
-    /// let early = report(&SMALL_SHOP, Context::new(480, 0, 0))?;
+    /// let early = report(&SMALL_SHOP, Context::new(480, 0, 0, 900))?;
     /// assert_eq!(early.count(), 1);
     /// # Ok::<(), release::Refusal>(())
     /// ```
@@ -47,7 +48,7 @@ impl Report {
     /// use release::example::SMALL_SHOP;
     /// use release::{report, Context};
     ///
-    /// let early = report(&SMALL_SHOP, Context::new(480, 0, 0))?;
+    /// let early = report(&SMALL_SHOP, Context::new(480, 0, 0, 900))?;
     /// let numbers: Vec<u32> = early.permissions().map(|p| p.number()).collect();
     /// assert_eq!(numbers, [0]);
     /// # Ok::<(), release::Refusal>(())
@@ -62,7 +63,7 @@ impl Report {
     /// use release::example::SMALL_SHOP;
     /// use release::{report, Context};
     ///
-    /// let early = report(&SMALL_SHOP, Context::new(480, 0, 0))?;
+    /// let early = report(&SMALL_SHOP, Context::new(480, 0, 0, 900))?;
     /// assert_eq!(early.bytes(), [2, 0, 0, 1, 1, 255, 255, 255, 255, 255, 255, 255, 255]);
     /// # Ok::<(), release::Refusal>(())
     /// ```
@@ -84,7 +85,7 @@ impl Permission {
     ///
     /// ```
     /// # use release::{example::SMALL_SHOP, report, Context};
-    /// # let early = report(&SMALL_SHOP, Context::new(480, 0, 0))?;
+    /// # let early = report(&SMALL_SHOP, Context::new(480, 0, 0, 900))?;
     /// for permission in early.permissions() {
     ///     println!("permission {}", permission.number());
     /// }
@@ -99,7 +100,7 @@ impl Permission {
     ///
     /// ```
     /// # use release::{example::SMALL_SHOP, report, Context};
-    /// # let early = report(&SMALL_SHOP, Context::new(480, 0, 0))?;
+    /// # let early = report(&SMALL_SHOP, Context::new(480, 0, 0, 900))?;
     /// let permission = early.permissions().next().expect("the shop has one");
     /// assert_eq!(permission.approvers(), 2);
     /// # Ok::<(), release::Refusal>(())
@@ -112,7 +113,7 @@ impl Permission {
     ///
     /// ```
     /// # use release::{decide, example::SMALL_SHOP, report, Context, Entry};
-    /// # let context = Context::new(480, 0, 0);
+    /// # let context = Context::new(480, 0, 0, 900);
     /// # let early = report(&SMALL_SHOP, context)?;
     /// let permission = early.permissions().next().expect("the shop has one");
     /// let group: Vec<Entry> = permission.entries().collect();
@@ -126,7 +127,8 @@ impl Permission {
 }
 
 /// The report for a base in a context, or the first of refusals 1 to 9 and 11
-/// that applies.
+/// that applies. Its groups are of users whose days include the context's date,
+/// as no others are granted.
 ///
 /// The library gets a buffer of [`LONGEST_REPORT`] bytes, all 255, which
 /// suffices for every base. It writes 13 bytes a permission, the first at most
@@ -138,11 +140,11 @@ impl Permission {
 /// use release::example::SMALL_SHOP;
 /// use release::{report, Context, Refusal};
 ///
-/// let early = report(&SMALL_SHOP, Context::new(480, 0, 0))?;
+/// let early = report(&SMALL_SHOP, Context::new(480, 0, 0, 900))?;
 /// for permission in early.permissions() {
 ///     println!("{} needs {}", permission.number(), permission.approvers());
 /// }
-/// let late = report(&SMALL_SHOP, Context::new(1440, 0, 0));
+/// let late = report(&SMALL_SHOP, Context::new(1440, 0, 0, 900));
 /// assert_eq!(late, Err(Refusal::Context));
 /// # Ok::<(), Refusal>(())
 /// ```
@@ -165,7 +167,7 @@ pub fn report(base: &[u8], context: Context) -> Result<Report, Refusal> {
 /// use release::example::SMALL_SHOP;
 /// use release::{report_into, Context, Refusal};
 ///
-/// let early = Context::new(480, 0, 0);
+/// let early = Context::new(480, 0, 0, 900);
 /// let mut buffer = [7; 14];
 /// assert_eq!(report_into(&SMALL_SHOP, early, &mut buffer), Ok(1));
 /// assert_eq!(buffer, [2, 0, 0, 1, 1, 255, 255, 255, 255, 255, 255, 255, 255, 7]);
@@ -188,8 +190,8 @@ pub fn report_into(base: &[u8], context: Context, buffer: &mut [u8]) -> Result<u
 /// // The buyer's policy made a second one of the manager: of weight 1, and from
 /// // a later day.
 /// let mut shop = SMALL_SHOP;
-/// (shop[62], shop[68]) = (0, 1);
-/// let by_day = Context::new(600, 0, 0);
+/// (shop[78], shop[84]) = (0, 1);
+/// let by_day = Context::new(600, 0, 0, 900);
 /// assert_eq!(report(&shop, by_day)?.count(), 1);
 ///
 /// let newest = Resolution::by(Rule::LaterDay);
@@ -212,7 +214,7 @@ pub fn report_by(base: &[u8], context: Context, resolution: Resolution) -> Resul
 /// use release::example::SMALL_SHOP;
 /// use release::{report_by_into, Context, Refusal};
 ///
-/// let early = Context::new(480, 0, 0);
+/// let early = Context::new(480, 0, 0, 900);
 /// let mut buffer = [7; 14];
 /// assert_eq!(report_by_into(&SMALL_SHOP, early, &[0, 1], &mut buffer), Ok(1));
 /// assert_eq!(buffer, [2, 0, 0, 1, 1, 255, 255, 255, 255, 255, 255, 255, 255, 7]);
@@ -239,7 +241,7 @@ pub fn report_by_into(
 /// use release::{permissions, report_into, Context, LONGEST_REPORT};
 ///
 /// let mut buffer = [255; LONGEST_REPORT];
-/// report_into(&SMALL_SHOP, Context::new(480, 0, 0), &mut buffer)?;
+/// report_into(&SMALL_SHOP, Context::new(480, 0, 0, 900), &mut buffer)?;
 /// let approvers: Vec<usize> = permissions(&buffer).map(|p| p.approvers()).collect();
 /// assert_eq!(approvers, [2]);
 /// # Ok::<(), release::Refusal>(())
@@ -261,13 +263,14 @@ mod tests {
         minute: 480,
         day: 0,
         zone: 0,
+        date: 900,
     };
 
     /// The shortest base: no records at all.
     fn no_permission() -> [u8; 36] {
         let mut base = [0; 36];
         base[28] = 1;
-        base[32..].copy_from_slice(b"LCAP");
+        base[32..].copy_from_slice(b"LCAQ");
         base
     }
 
@@ -320,15 +323,21 @@ mod tests {
     #[test]
     fn a_refusal_writes_nothing() {
         let mut buffer = [7; LONGEST_REPORT];
-        let late = Context::new(0, 7, 0);
-        let refused = report_into(&SMALL_SHOP, late, &mut buffer);
-        assert_eq!(refused, Err(Refusal::Context));
-        assert_eq!(buffer, [7; LONGEST_REPORT]);
+        let late = Context::new(0, 7, 0, 900);
+        let no_date = Context {
+            date: 65_536,
+            ..EARLY
+        };
+        for context in [late, no_date] {
+            let refused = report_into(&SMALL_SHOP, context, &mut buffer);
+            assert_eq!(refused, Err(Refusal::Context));
+            assert_eq!(buffer, [7; LONGEST_REPORT]);
+        }
     }
 
     #[test]
     fn a_refused_list_writes_nothing() {
-        let late = Context::new(0, 7, 0);
+        let late = Context::new(0, 7, 0, 900);
         let mut buffer = [7; LONGEST_REPORT];
         for list in [&[][..], &[1, 1], &[255], &[2, 1, 0, 2]] {
             for (context, length) in [(EARLY, LONGEST_REPORT), (late, 0)] {
@@ -344,6 +353,31 @@ mod tests {
         let refused = report_by_into(&SMALL_SHOP, EARLY, &[2, 1, 0], &mut buffer[..12]);
         assert_eq!(refused, Err(Refusal::ReportBuffer));
         assert_eq!(buffer, [7; LONGEST_REPORT]);
+    }
+
+    /// The number of approvers by day, where a sum of 4 suffices, the manager has
+    /// days 7 to 9 and the buyer those from 6 on; by a list too.
+    fn approvers_on(date: u32) -> usize {
+        let mut shop = SMALL_SHOP;
+        shop[45] = 4;
+        (shop[8], shop[10], shop[11]) = (7, 9, 0);
+        shop[16] = 6;
+        let context = Context::new(600, 0, 0, date);
+        let report = report(&shop, context).expect("it is reported");
+        let by_list = report_by(&shop, context, Resolution::by(Rule::LaterDay));
+        assert_eq!(by_list.as_ref(), Ok(&report));
+        let permission = report.permissions().next().expect("the shop has one");
+        assert_eq!(report.count(), usize::from(permission.approvers() > 0));
+        permission.approvers()
+    }
+
+    /// The roles weigh 5, 2 and 1: without the manager it takes the buyer and both
+    /// clerks, and without the buyer nobody can release it.
+    #[test]
+    fn users_out_of_their_days_are_not_considered() {
+        for (date, approvers) in [(0, 0), (5, 0), (6, 3), (7, 2), (9, 2), (10, 3)] {
+            assert_eq!(approvers_on(date), approvers);
+        }
     }
 
     /// Each role of the small shop has one policy at most.

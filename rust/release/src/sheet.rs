@@ -14,13 +14,14 @@ pub const SHEET_BYTES: usize = 14;
 ///
 /// Each call but a withdrawal takes a base, and the sheet remembers none: a
 /// signature is held against the base at signing and, with the others, against
-/// the base at asking. A sheet can be kept as its [bytes](Sheet::to_bytes).
+/// the base at asking, and there against the date. A sheet can be kept as its
+/// [bytes](Sheet::to_bytes).
 ///
 /// ```
 /// use release::example::SMALL_SHOP;
 /// use release::{Context, Entry, Refusal, Sheet};
 ///
-/// let by_day = Context::new(600, 0, 0);
+/// let by_day = Context::new(600, 0, 0, 900);
 /// let mut sheet = Sheet::open(&SMALL_SHOP, 0)?;
 ///
 /// sheet.sign(&SMALL_SHOP, Entry::new(0, 0))?;
@@ -62,6 +63,9 @@ impl Sheet {
     /// 20 that applies; then the sheet is as it was. 13 to 15 are for the new
     /// entry alone: [`Refusal::UserTwice`] if its user is on the sheet, in
     /// whatever role. A full sheet gets them before [`Refusal::SheetFull`].
+    ///
+    /// Signing knows no date: a signature from out of its user's days is taken,
+    /// and asking gives [`Refusal::OutOfDate`].
     ///
     /// ```
     /// use release::example::SMALL_SHOP;
@@ -150,7 +154,7 @@ impl Sheet {
     /// use release::{Context, Refusal, Sheet};
     ///
     /// let sheet = Sheet::open(&SMALL_SHOP, 0)?;
-    /// let asked = sheet.ask(&SMALL_SHOP, Context::new(600, 0, 0));
+    /// let asked = sheet.ask(&SMALL_SHOP, Context::new(600, 0, 0, 900));
     /// assert_eq!(asked, Err(Refusal::GroupLength));
     /// # Ok::<(), Refusal>(())
     /// ```
@@ -233,16 +237,19 @@ mod tests {
         minute: 600,
         day: 0,
         zone: 0,
+        date: 900,
     };
 
     /// The small shop with four clerks more: users 4 to 7.
     fn eight_users() -> Vec<u8> {
         let mut shop = SMALL_SHOP.to_vec();
-        shop[84] = 8;
-        for offset in [86, 90, 94, 98, 102] {
-            shop[offset] += 16;
+        let (tables, trailer) = shop.split_at_mut(94);
+        let clerks = tables[20..36].repeat(2);
+        trailer[6] = 8;
+        for table in 2..7 {
+            trailer[4 * table] += 32;
         }
-        shop.splice(20..20, [7, 0, 0, 0].repeat(4));
+        shop.splice(36..36, clerks);
         shop
     }
 
@@ -368,6 +375,27 @@ mod tests {
             assert_eq!(refused, Err(Refusal::NoSignature));
             assert_eq!(sheet, full);
         }
+    }
+
+    /// User 2, a clerk, has days 7 to 9.
+    #[test]
+    fn signing_knows_no_date_and_asking_does() {
+        let mut shop = SMALL_SHOP;
+        (shop[24], shop[26], shop[27]) = (7, 9, 0);
+        let mut sheet = Sheet::open(&shop, 0).expect("it is opened");
+        for (user, role) in [(0, 0), (2, 2)] {
+            assert_eq!(sheet.sign(&shop, Entry::new(user, role)), Ok(()));
+        }
+        let asked = |date| sheet.ask(&shop, Context { date, ..BY_DAY });
+        for date in [7, 8, 9] {
+            assert_eq!(asked(date), Ok(()));
+        }
+        for date in [0, 6, 10, 65_535] {
+            assert_eq!(asked(date), Err(Refusal::OutOfDate));
+        }
+        assert_eq!(asked(65_536), Err(Refusal::Context));
+        assert_eq!(sheet.withdraw(2), Ok(()));
+        assert_eq!(sheet.ask(&shop, BY_DAY), Err(Refusal::Condition));
     }
 
     #[test]

@@ -123,11 +123,12 @@ fn every_call_from_cpp() {
     assert_eq!(printed(&calls, &SMALL_SHOP), "ok\n");
 }
 
-/// The program's input is minute 480, day 0, zone 0 and the same base.
+/// The program's input is minute 480, day 0, zone 0, some date in 2 bytes and the
+/// same base.
 #[test]
 fn the_example_base_is_the_programs_input() {
     let input = std::fs::read(format!("{PROJECT}/crates/release_list/stdin"));
     let input = input.expect("the program's input");
     assert_eq!(input[..4], [0xe0, 0x01, 0, 0]);
-    assert_eq!(input[4..], SMALL_SHOP);
+    assert_eq!(input[6..], SMALL_SHOP);
 }

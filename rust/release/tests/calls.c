@@ -1,16 +1,19 @@
 /*
  * Calls each function through the header, in C and in C++: every refusal and
- * every rule by its name, NULL with length 0, the buffers, the sheets and the two
- * parts of an answer. The small shop comes in on standard input. Prints what
- * differs, or `ok`.
+ * every rule by its name, dates, NULL with length 0, the buffers, the sheets and
+ * the two parts of an answer. The small shop comes in on standard input. Prints
+ * what differs, or `ok`.
  */
 #include <stdio.h>
 #include <string.h>
 
 #include "release.h"
 
-#define SHOP 114
+#define SHOP 130
 #define TRAILER 36
+
+/* Any date: the shop's users have all days. */
+#define DATE 900
 
 static uint8_t shop[SHOP];
 static int differences = 0;
@@ -46,28 +49,55 @@ static uint32_t check_with_exclusion(uint8_t kind, uint8_t a, uint8_t b) {
 static void checks(void) {
     expect("check", RELEASE_DONE, release_check(shop, SHOP));
     expect("1", RELEASE_REFUSAL_LENGTH, release_check(shop, RELEASE_SHORTEST_BASE - 1));
-    expect("2", RELEASE_REFUSAL_LETTERS, check_with(SHOP - 1, 'Q'));
+    expect("2", RELEASE_REFUSAL_LETTERS, check_with(SHOP - 1, 'P'));
     expect("3", RELEASE_REFUSAL_TRAILER, check_with(SHOP - 5, 1));
     expect("4", RELEASE_REFUSAL_HIERARCHY, check_with(0, 1));
     expect("5", RELEASE_REFUSAL_USERS, check_with(4, 9));
-    expect("6", RELEASE_REFUSAL_GROUP_CLAUSES, check_with(22, 1));
-    expect("7", RELEASE_REFUSAL_CONTEXT_CLAUSES, check_with(38, 16));
-    expect("8", RELEASE_REFUSAL_POLICIES, check_with(56, 6));
+    expect("6", RELEASE_REFUSAL_GROUP_CLAUSES, check_with(38, 1));
+    expect("7", RELEASE_REFUSAL_CONTEXT_CLAUSES, check_with(54, 16));
+    expect("8", RELEASE_REFUSAL_POLICIES, check_with(72, 6));
     expect("9", RELEASE_REFUSAL_EXCLUSIONS, check_with_exclusion(0, 2, 2));
     expect("an exclusion", RELEASE_DONE, check_with_exclusion(0, 1, 2));
+}
+
+/* The shop with other days for one of its users. */
+static void with_days(uint8_t *base, size_t user, uint16_t first, uint16_t last) {
+    uint8_t *record = base + 4 + RELEASE_USER_BYTES * user;
+    memcpy(base, shop, SHOP);
+    record[4] = (uint8_t)(first % 256);
+    record[5] = (uint8_t)(first / 256);
+    record[6] = (uint8_t)(last % 256);
+    record[7] = (uint8_t)(last / 256);
+}
+
+static uint32_t check_with_days(size_t user, uint16_t first, uint16_t last) {
+    uint8_t base[SHOP];
+    with_days(base, user, first, last);
+    return release_check(base, SHOP);
+}
+
+static void days(void) {
+    expect("days", RELEASE_DONE, check_with_days(3, 899, 901));
+    expect("one day", RELEASE_DONE, check_with_days(3, 900, 900));
+    expect("the first day", RELEASE_DONE, check_with_days(3, 0, 0));
+    expect("the last day", RELEASE_DONE, check_with_days(3, 65535, 65535));
+    expect("5", RELEASE_REFUSAL_USERS, check_with_days(3, 900, 899));
+    expect("5", RELEASE_REFUSAL_USERS, check_with_days(0, 1, 0));
+    expect("5", RELEASE_REFUSAL_USERS, check_with_days(0, 65535, 65534));
+    expect("5", RELEASE_REFUSAL_USERS, check_with_days(0, 256, 255));
 }
 
 /* A base of as many bytes as can be, and one more. */
 static void lengths(void) {
     uint8_t base[RELEASE_LONGEST_BASE + 1];
     memset(base, 0, sizeof base);
-    memcpy(base + RELEASE_LONGEST_BASE - 4, "LCAP", 4);
+    memcpy(base + RELEASE_LONGEST_BASE - 4, "LCAQ", 4);
     expect("longest", RELEASE_REFUSAL_TRAILER, release_check(base, RELEASE_LONGEST_BASE));
     expect("longer", RELEASE_REFUSAL_LENGTH, release_check(base, sizeof base));
 }
 
 static uint32_t decide(uint32_t minute, const uint8_t *group, size_t length) {
-    return release_decide(shop, SHOP, 0, minute, 0, 0, group, length);
+    return release_decide(shop, SHOP, 0, minute, 0, 0, DATE, group, length);
 }
 
 static void decisions(void) {
@@ -78,10 +108,10 @@ static void decisions(void) {
     const uint8_t as_junior[] = {0, 1, 1, 1, 2, 2};
     expect("granted", RELEASE_DONE, decide(600, two, 4));
     expect("10", RELEASE_REFUSAL_NO_PERMISSION,
-           release_decide(shop, SHOP, 256, 600, 0, 0, two, 4));
+           release_decide(shop, SHOP, 256, 600, 0, 0, DATE, two, 4));
     expect("11", RELEASE_REFUSAL_CONTEXT, decide(1440, two, 4));
-    expect("11", RELEASE_REFUSAL_CONTEXT, release_decide(shop, SHOP, 0, 0, 7, 0, two, 4));
-    expect("11", RELEASE_REFUSAL_CONTEXT, release_decide(shop, SHOP, 0, 0, 0, 256, two, 4));
+    expect("11", RELEASE_REFUSAL_CONTEXT, release_decide(shop, SHOP, 0, 0, 7, 0, DATE, two, 4));
+    expect("11", RELEASE_REFUSAL_CONTEXT, release_decide(shop, SHOP, 0, 0, 0, 256, DATE, two, 4));
     expect("12", RELEASE_REFUSAL_GROUP_LENGTH, decide(600, two, 3));
     expect("13", RELEASE_REFUSAL_NO_USER_OR_ROLE, decide(600, unknown, 4));
     expect("14", RELEASE_REFUSAL_USER_TWICE, decide(600, twice, 4));
@@ -96,9 +126,9 @@ static void decisions(void) {
    the later day, the smaller rank and the smaller weight. */
 static void two_of_the_manager(uint8_t *base) {
     memcpy(base, shop, SHOP);
-    base[59] = 1;
-    base[70] = 0;
-    base[76] = 1;
+    base[75] = 1;
+    base[86] = 0;
+    base[92] = 1;
 }
 
 /* By the list, the answer for manager and buyer. */
@@ -106,7 +136,7 @@ static uint32_t decide_by(uint32_t minute, const uint8_t *list, size_t length) {
     const uint8_t two[] = {0, 0, 1, 1};
     uint8_t base[SHOP];
     two_of_the_manager(base);
-    return release_decide_by(base, SHOP, 0, minute, 0, 0, list, length, two, 4);
+    return release_decide_by(base, SHOP, 0, minute, 0, 0, DATE, list, length, two, 4);
 }
 
 /* By the first policy manager and buyer have 5, by the second 3. */
@@ -131,19 +161,19 @@ static void decisions_by(void) {
            decide_by(600, four, RELEASE_LONGEST_RESOLUTION + 1));
     expect("its first three", RELEASE_DONE, decide_by(600, four, RELEASE_LONGEST_RESOLUTION));
     expect("2 before 22", RELEASE_REFUSAL_LETTERS,
-           release_decide_by(shop, SHOP - 1, 256, 1440, 0, 0, other, 3, twice, 3));
+           release_decide_by(shop, SHOP - 1, 256, 1440, 0, 0, DATE, other, 3, twice, 3));
     expect("22 before 10", RELEASE_REFUSAL_RESOLUTION,
-           release_decide_by(shop, SHOP, 256, 1440, 0, 0, other, 3, twice, 3));
+           release_decide_by(shop, SHOP, 256, 1440, 0, 0, DATE, other, 3, twice, 3));
     expect("10", RELEASE_REFUSAL_NO_PERMISSION,
-           release_decide_by(shop, SHOP, 256, 1440, 0, 0, day, 1, twice, 3));
+           release_decide_by(shop, SHOP, 256, 1440, 0, 0, DATE, day, 1, twice, 3));
     expect("11", RELEASE_REFUSAL_CONTEXT,
-           release_decide_by(shop, SHOP, 0, 1440, 0, 0, day, 1, twice, 3));
+           release_decide_by(shop, SHOP, 0, 1440, 0, 0, DATE, day, 1, twice, 3));
     expect("12", RELEASE_REFUSAL_GROUP_LENGTH,
-           release_decide_by(shop, SHOP, 0, 600, 0, 0, day, 1, twice, 3));
+           release_decide_by(shop, SHOP, 0, 600, 0, 0, DATE, day, 1, twice, 3));
     expect("14", RELEASE_REFUSAL_USER_TWICE,
-           release_decide_by(shop, SHOP, 0, 600, 0, 0, day, 1, twice, 4));
+           release_decide_by(shop, SHOP, 0, 600, 0, 0, DATE, day, 1, twice, 4));
     expect("the base's first bytes as list and group", RELEASE_REFUSAL_CONDITION,
-           release_decide_by(shop, SHOP, 0, 600, 0, 0, shop, 2, shop + 2, 2));
+           release_decide_by(shop, SHOP, 0, 600, 0, 0, DATE, shop, 2, shop + 2, 2));
 }
 
 static void reports(void) {
@@ -152,11 +182,11 @@ static void reports(void) {
     uint64_t answer;
     size_t i;
     memset(out, 7, sizeof out);
-    answer = release_report(shop, SHOP, 480, 0, 0, out, RELEASE_PERMISSION_BYTES - 1);
+    answer = release_report(shop, SHOP, 480, 0, 0, DATE, out, RELEASE_PERMISSION_BYTES - 1);
     expect("19", RELEASE_REFUSAL_REPORT_BUFFER, release_answer_refusal(answer));
     expect("19's count", 0, release_answer_count(answer));
     expect("a refused report writes nothing", 7, out[0]);
-    answer = release_report(shop, SHOP, 480, 0, 0, out, sizeof out);
+    answer = release_report(shop, SHOP, 480, 0, 0, DATE, out, sizeof out);
     expect("report", RELEASE_DONE, release_answer_refusal(answer));
     expect("releasable", 1, release_answer_count(answer));
     for (i = 0; i < sizeof out; i++) {
@@ -174,23 +204,25 @@ static void reports_by(void) {
     two_of_the_manager(base);
     memset(out, 7, sizeof out);
     expect("2 before 22", RELEASE_REFUSAL_LETTERS,
-           release_report_by(base, SHOP - 1, 1440, 0, 0, twice, 2, out, 0));
+           release_report_by(base, SHOP - 1, 1440, 0, 0, DATE, twice, 2, out, 0));
     expect("22 before 11", RELEASE_REFUSAL_RESOLUTION,
-           release_report_by(base, SHOP, 1440, 0, 0, twice, 2, out, 0));
+           release_report_by(base, SHOP, 1440, 0, 0, DATE, twice, 2, out, 0));
     expect("22", RELEASE_REFUSAL_RESOLUTION,
-           release_report_by(base, SHOP, 600, 0, 0, twice, 2, out, sizeof out));
+           release_report_by(base, SHOP, 600, 0, 0, DATE, twice, 2, out, sizeof out));
     expect("22", RELEASE_REFUSAL_RESOLUTION,
-           release_report_by(base, SHOP, 600, 0, 0, day, 0, out, sizeof out));
+           release_report_by(base, SHOP, 600, 0, 0, DATE, day, 0, out, sizeof out));
     expect("11", RELEASE_REFUSAL_CONTEXT,
-           release_report_by(base, SHOP, 1440, 0, 0, day, 1, out, 0));
+           release_report_by(base, SHOP, 1440, 0, 0, DATE, day, 1, out, 0));
     expect("19", RELEASE_REFUSAL_REPORT_BUFFER,
-           release_report_by(base, SHOP, 600, 0, 0, day, 1, out, RELEASE_PERMISSION_BYTES - 1));
+           release_report_by(base, SHOP, 600, 0, 0, DATE, day, 1, out,
+                             RELEASE_PERMISSION_BYTES - 1));
     expect("a refused report writes nothing", 7, out[0]);
-    expect("by the later day", 0, release_report_by(base, SHOP, 600, 0, 0, day, 1, out, sizeof out));
+    expect("by the later day", 0,
+           release_report_by(base, SHOP, 600, 0, 0, DATE, day, 1, out, sizeof out));
     expect("no approvers", 0, out[0]);
     expect("no entry", 255, out[1]);
     expect("by the larger rank", 256,
-           release_report_by(base, SHOP, 600, 0, 0, rank, 2, out, sizeof out));
+           release_report_by(base, SHOP, 600, 0, 0, DATE, rank, 2, out, sizeof out));
     expect("approvers", 2, out[0]);
     expect("the byte behind", 7, out[RELEASE_PERMISSION_BYTES]);
 }
@@ -202,10 +234,10 @@ static void conflicts(void) {
     uint8_t out[3 * RELEASE_CONFLICT_BYTES + 1];
     uint64_t answer;
     memcpy(base, shop, SHOP);
-    base[54] = base[62] = base[70] = 1;
-    base[56] = 1;
-    base[64] = 2;
-    base[72] = 3;
+    base[70] = base[78] = base[86] = 1;
+    base[72] = 1;
+    base[80] = 2;
+    base[88] = 3;
     memset(out, 7, sizeof out);
     answer = release_conflicts(base, SHOP, out, 3 * RELEASE_CONFLICT_BYTES - 1);
     expect("18", RELEASE_REFUSAL_CONFLICT_BUFFER, release_answer_refusal(answer));
@@ -405,7 +437,7 @@ static void full_sheets(void) {
         expect("20", RELEASE_REFUSAL_SHEET_FULL,
                release_sheet_sign(shop, SHOP, 1, 1, guarded.sheet));
         expect("13", RELEASE_REFUSAL_NO_USER_OR_ROLE,
-               release_sheet_ask(shop, SHOP, 600, 0, 0, guarded.sheet));
+               release_sheet_ask(shop, SHOP, 600, 0, 0, DATE, guarded.sheet));
         expect_sheet("a full sheet", full, guarded);
     }
     full[RELEASE_SHEET_ENTRIES] = 1;
@@ -413,7 +445,7 @@ static void full_sheets(void) {
 }
 
 static uint32_t ask(uint32_t minute, const uint8_t *sheet) {
-    return release_sheet_ask(shop, SHOP, minute, 0, 0, sheet);
+    return release_sheet_ask(shop, SHOP, minute, 0, 0, DATE, sheet);
 }
 
 static void askings(void) {
@@ -422,10 +454,10 @@ static void askings(void) {
     memcpy(sheet, two, sizeof sheet);
     expect("granted", RELEASE_DONE, ask(600, sheet));
     expect("2", RELEASE_REFUSAL_LETTERS,
-           release_sheet_ask(shop, SHOP - 1, 600, 0, 0, sheet));
+           release_sheet_ask(shop, SHOP - 1, 600, 0, 0, DATE, sheet));
     expect("11", RELEASE_REFUSAL_CONTEXT, ask(1440, sheet));
-    expect("11", RELEASE_REFUSAL_CONTEXT, release_sheet_ask(shop, SHOP, 0, 7, 0, sheet));
-    expect("11", RELEASE_REFUSAL_CONTEXT, release_sheet_ask(shop, SHOP, 0, 0, 256, sheet));
+    expect("11", RELEASE_REFUSAL_CONTEXT, release_sheet_ask(shop, SHOP, 0, 7, 0, DATE, sheet));
+    expect("11", RELEASE_REFUSAL_CONTEXT, release_sheet_ask(shop, SHOP, 0, 0, 256, DATE, sheet));
     expect("16", RELEASE_REFUSAL_NO_WEIGHT, ask(480, sheet));
     sheet[RELEASE_SHEET_COUNT] = 1;
     expect("17", RELEASE_REFUSAL_CONDITION, ask(600, sheet));
@@ -436,35 +468,93 @@ static void askings(void) {
     expect("the base as a sheet: user 1 as role 2", 17, ask(600, shop));
 }
 
+/* Manager and clerk, where the clerk has days 899 to 901. */
+static void dates(void) {
+    const uint8_t list[] = {RELEASE_RULE_LATER_DAY};
+    const uint8_t two[] = {0, 0, 2, 2};
+    const uint8_t clerks[] = {3, 2, 2, 2};
+    const uint8_t as_senior[] = {2, 2, 1, 0};
+    uint8_t base[SHOP];
+    uint8_t sheet[RELEASE_SHEET_BYTES];
+    uint32_t date;
+    with_days(base, 2, 899, 901);
+    expect("open", RELEASE_DONE, release_sheet_open(base, SHOP, 0, sheet));
+    expect("sign", RELEASE_DONE, release_sheet_sign(base, SHOP, 0, 0, sheet));
+    expect("signing knows no date", RELEASE_DONE, release_sheet_sign(base, SHOP, 2, 2, sheet));
+    for (date = 897; date <= 903; date++) {
+        uint32_t answer = date < 899 || 901 < date ? RELEASE_REFUSAL_OUT_OF_DATE : RELEASE_DONE;
+        expect("decide", answer, release_decide(base, SHOP, 0, 600, 0, 0, date, two, 4));
+        expect("decide by", answer,
+               release_decide_by(base, SHOP, 0, 600, 0, 0, date, list, 1, two, 4));
+        expect("ask", answer, release_sheet_ask(base, SHOP, 600, 0, 0, date, sheet));
+    }
+    expect("15 before 24", RELEASE_REFUSAL_MEMBERSHIP,
+           release_decide(base, SHOP, 0, 600, 0, 0, 902, as_senior, 4));
+    expect("24 of the second before 16 of the first", RELEASE_REFUSAL_OUT_OF_DATE,
+           release_decide(base, SHOP, 0, 480, 0, 0, 902, clerks, 4));
+    expect("16", RELEASE_REFUSAL_NO_WEIGHT,
+           release_decide(base, SHOP, 0, 480, 0, 0, 901, clerks, 4));
+    expect("the last date", RELEASE_DONE,
+           release_decide(shop, SHOP, 0, 600, 0, 0, 65535, two, 4));
+    expect("11", RELEASE_REFUSAL_CONTEXT,
+           release_decide(shop, SHOP, 0, 600, 0, 0, 65536, two, 4));
+    expect("11", RELEASE_REFUSAL_CONTEXT,
+           release_decide_by(shop, SHOP, 0, 600, 0, 0, UINT32_MAX, list, 1, two, 4));
+    expect("11", RELEASE_REFUSAL_CONTEXT,
+           release_sheet_ask(shop, SHOP, 600, 0, 0, 65536 + DATE, sheet));
+}
+
+/* Where the manager has days 899 to 901, nobody else can release. */
+static void reports_on_dates(void) {
+    const uint8_t list[] = {RELEASE_RULE_LATER_DAY};
+    uint8_t base[SHOP];
+    uint8_t out[RELEASE_PERMISSION_BYTES];
+    uint32_t date;
+    with_days(base, 0, 899, 901);
+    for (date = 897; date <= 903; date++) {
+        uint64_t count = date < 899 || 901 < date ? 0 : 1;
+        expect("report", 256 * count,
+               release_report(base, SHOP, 600, 0, 0, date, out, sizeof out));
+        expect("approvers", 2 * count, out[0]);
+        expect("report by", 256 * count,
+               release_report_by(base, SHOP, 600, 0, 0, date, list, 1, out, sizeof out));
+        expect("approvers", 2 * count, out[0]);
+    }
+    expect("11", RELEASE_REFUSAL_CONTEXT,
+           release_report(shop, SHOP, 600, 0, 0, 65536, out, sizeof out));
+    expect("11", RELEASE_REFUSAL_CONTEXT,
+           release_report_by(shop, SHOP, 600, 0, 0, 65536, list, 1, out, sizeof out));
+}
+
 static void nulls(void) {
     uint8_t out[RELEASE_PERMISSION_BYTES];
     uint8_t sheet[RELEASE_SHEET_BYTES] = {0};
     uint8_t least[RELEASE_SHORTEST_BASE];
     memset(least, 0, sizeof least);
     least[28] = 1;
-    memcpy(least + 32, "LCAP", 4);
+    memcpy(least + 32, "LCAQ", 4);
     expect("no base", 1, release_check(NULL, 0));
-    expect("no base", 1, release_decide(NULL, 0, 0, 480, 0, 0, NULL, 0));
-    expect("no base", 1, release_decide_by(NULL, 0, 0, 480, 0, 0, NULL, 0, NULL, 0));
-    expect("no base", 1, release_report(NULL, 0, 480, 0, 0, out, sizeof out));
-    expect("no base", 1, release_report(NULL, 0, 480, 0, 0, NULL, 0));
-    expect("no base", 1, release_report_by(NULL, 0, 480, 0, 0, NULL, 0, NULL, 0));
+    expect("no base", 1, release_decide(NULL, 0, 0, 480, 0, 0, DATE, NULL, 0));
+    expect("no base", 1, release_decide_by(NULL, 0, 0, 480, 0, 0, DATE, NULL, 0, NULL, 0));
+    expect("no base", 1, release_report(NULL, 0, 480, 0, 0, DATE, out, sizeof out));
+    expect("no base", 1, release_report(NULL, 0, 480, 0, 0, DATE, NULL, 0));
+    expect("no base", 1, release_report_by(NULL, 0, 480, 0, 0, DATE, NULL, 0, NULL, 0));
     expect("no base", 1, release_conflicts(NULL, 0, out, sizeof out));
     expect("no base", 1, release_conflicts(NULL, 0, NULL, 0));
     expect("no base", 1, release_bound(NULL, 0, 0, 5, NULL, 0));
     expect("no base", 1, release_sheet_sign(NULL, 0, 0, 0, sheet));
-    expect("no base", 1, release_sheet_ask(NULL, 0, 480, 0, 0, sheet));
+    expect("no base", 1, release_sheet_ask(NULL, 0, 480, 0, 0, DATE, sheet));
     expect("no base", 1, release_sheet_open(NULL, 0, 0, sheet));
     expect("permission 255", 255, sheet[RELEASE_SHEET_PERMISSION]);
-    expect("no list", 22, release_decide_by(shop, SHOP, 0, 480, 0, 0, NULL, 0, NULL, 0));
-    expect("no list", 22, release_report_by(shop, SHOP, 480, 0, 0, NULL, 0, NULL, 0));
-    expect("no group", 12, release_decide(shop, SHOP, 0, 480, 0, 0, NULL, 0));
-    expect("no group", 12, release_decide_by(shop, SHOP, 0, 480, 0, 0, shop, 1, NULL, 0));
+    expect("no list", 22, release_decide_by(shop, SHOP, 0, 480, 0, 0, DATE, NULL, 0, NULL, 0));
+    expect("no list", 22, release_report_by(shop, SHOP, 480, 0, 0, DATE, NULL, 0, NULL, 0));
+    expect("no group", 12, release_decide(shop, SHOP, 0, 480, 0, 0, DATE, NULL, 0));
+    expect("no group", 12, release_decide_by(shop, SHOP, 0, 480, 0, 0, DATE, shop, 1, NULL, 0));
     expect("no group", 12, release_bound(shop, SHOP, 0, 5, NULL, 0));
-    expect("no buffer", 19, release_report(shop, SHOP, 480, 0, 0, NULL, 0));
-    expect("no buffer", 19, release_report_by(shop, SHOP, 480, 0, 0, shop, 1, NULL, 0));
+    expect("no buffer", 19, release_report(shop, SHOP, 480, 0, 0, DATE, NULL, 0));
+    expect("no buffer", 19, release_report_by(shop, SHOP, 480, 0, 0, DATE, shop, 1, NULL, 0));
     expect("no permission, no buffer", 0,
-           release_report(least, sizeof least, 480, 0, 0, NULL, 0));
+           release_report(least, sizeof least, 480, 0, 0, DATE, NULL, 0));
     expect("no conflict, no buffer", 0, release_conflicts(shop, SHOP, NULL, 0));
 }
 
@@ -485,21 +575,22 @@ static void unaligned(void) {
         memcpy(group + at, two, 4);
         memset(out, 7, sizeof out);
         expect("check", 0, release_check(base + at, SHOP));
-        expect("decide", 0, release_decide(base + at, SHOP, 0, 480, 0, 0, group + at, 4));
+        expect("decide", 0, release_decide(base + at, SHOP, 0, 480, 0, 0, DATE, group + at, 4));
         expect("report", 256,
-               release_report(base + at, SHOP, 480, 0, 0, out + at, RELEASE_PERMISSION_BYTES));
+               release_report(base + at, SHOP, 480, 0, 0, DATE, out + at,
+                              RELEASE_PERMISSION_BYTES));
         expect("approvers", 2, out[at]);
         expect("decide by", 0,
-               release_decide_by(base + at, SHOP, 0, 480, 0, 0, list + at, 2, group + at, 4));
+               release_decide_by(base + at, SHOP, 0, 480, 0, 0, DATE, list + at, 2, group + at, 4));
         expect("report by", 256,
-               release_report_by(base + at, SHOP, 480, 0, 0, list + at, 2, out + at,
+               release_report_by(base + at, SHOP, 480, 0, 0, DATE, list + at, 2, out + at,
                                  RELEASE_PERMISSION_BYTES));
         expect("conflicts", 0, release_conflicts(base + at, SHOP, out + at, 3));
         expect("bound", 256 * 8, release_bound(base + at, SHOP, 1, 5, group + at, 4));
         expect("open", 0, release_sheet_open(base + at, SHOP, 0, sheet + at));
         expect("sign", 0, release_sheet_sign(base + at, SHOP, 0, 0, sheet + at));
         expect("sign", 0, release_sheet_sign(base + at, SHOP, 1, 1, sheet + at));
-        expect("ask", 0, release_sheet_ask(base + at, SHOP, 480, 0, 0, sheet + at));
+        expect("ask", 0, release_sheet_ask(base + at, SHOP, 480, 0, 0, DATE, sheet + at));
         expect("withdraw", 0, release_sheet_withdraw(0, sheet + at));
         expect("the buyer moves up", 1, sheet[at + RELEASE_SHEET_ENTRIES]);
     }
@@ -511,6 +602,7 @@ int main(void) {
         return 1;
     }
     checks();
+    days();
     lengths();
     decisions();
     decisions_by();
@@ -525,6 +617,8 @@ int main(void) {
     other_sheets();
     full_sheets();
     askings();
+    dates();
+    reports_on_dates();
     nulls();
     unaligned();
     if (differences == 0) {

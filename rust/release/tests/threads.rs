@@ -12,6 +12,7 @@ const EARLY: Context = Context {
     minute: 480,
     day: 0,
     zone: 0,
+    date: 900,
 };
 
 /// Runs a call in a thread with so many bytes of stack.
@@ -22,9 +23,9 @@ fn within<T: Send + 'static>(stack: usize, call: impl FnOnce() -> T + Send + 'st
 
 /// The small shop with a sum that nobody reaches: groups of every number are
 /// looked for, which takes most.
-fn out_of_reach() -> [u8; 114] {
+fn out_of_reach() -> [u8; 130] {
     let mut shop = SMALL_SHOP;
-    shop[29] = 255;
+    shop[45] = 255;
     shop
 }
 

@@ -67,7 +67,7 @@ pub fn counts(base: &[u8], at: Context) -> Counts {
     let mut ups = [[0; 8]; UPS];
     let mut counting = Counting {
         base: &base,
-        next_ends: next_ends(base.users, &setting.juniors),
+        next_ends: next_ends(base.users, &setting.juniors, at.date),
         allowed: Allowed::new(base.roles.into(), &mut sets, &mut ends, &mut ups),
         counts: Counts::default(),
     };
@@ -170,6 +170,7 @@ mod tests {
         minute: 0,
         day: 0,
         zone: 0,
+        date: 0,
     };
 
     /// Users of every role, and two permissions: role 7 weighs 2, the others 4.

@@ -1,10 +1,11 @@
-//! The decision on a group: refusals 12 to 15, which a bound gives too, 16 and
-//! 17.
+//! The decision on a group: refusals 12 to 15, which a bound gives too, 24, 16
+//! and 17.
 
 use crate::acting::{acting_roles, holds_role};
 use crate::base::Base;
 use crate::conditions::holds;
-use crate::weights::Weights;
+use crate::users::{in_days, parameter_of};
+use crate::weights::{Setting, Weights};
 use crate::MOST;
 
 /// The entries, or the first of refusals 12 to 15 that applies.
@@ -26,19 +27,23 @@ pub fn members<'a>(base: &Base, juniors: &[u8; 8], group: &'a [u8]) -> Result<&'
     Ok(entries)
 }
 
-/// 0 where the group is granted, else the first of refusals 12 to 17 that
-/// applies. The weights are asked for after 15.
+/// 0 where the group is granted, else the first of refusals 12 to 15, 24, 16 and
+/// 17 that applies. The weights are asked for after 24.
 pub fn group_refusal(
     base: &Base,
     permission: u8,
-    juniors: &[u8; 8],
+    setting: &Setting,
     weights: impl FnOnce() -> Weights,
     group: &[u8],
 ) -> u8 {
-    let entries = match members(base, juniors, group) {
+    let entries = match members(base, &setting.juniors, group) {
         Ok(entries) => entries,
         Err(refusal) => return refusal,
     };
+    let in_days = |entry: &[u8; 2]| in_days(&base.users[usize::from(entry[0])], setting.date);
+    if !entries.iter().all(in_days) {
+        return 24;
+    }
     let w = weights();
     if entries.iter().any(|entry| weight_of(w, entry) == 0) {
         return 16;
@@ -65,7 +70,7 @@ fn stands_before(entries: &[[u8; 2]], i: usize) -> bool {
 
 /// Whether the user holds the role, or one whose juniors it is among.
 pub fn may_act(base: &Base, &[user, role]: &[u8; 2], juniors: impl FnOnce() -> [u8; 8]) -> bool {
-    let parameter = u32::from_le_bytes(base.users[usize::from(user)]);
+    let parameter = parameter_of(&base.users[usize::from(user)]);
     let role = role & 7;
     holds_role(parameter, role.into()) || acting_roles(parameter, &juniors()) >> role & 1 == 1
 }

@@ -22,6 +22,7 @@ mod resolution;
 mod rows;
 mod search;
 mod sheet;
+mod users;
 mod weights;
 pub mod worst;
 
@@ -49,7 +50,7 @@ pub fn check(base: &[u8]) -> u8 {
 }
 
 /// 0 where the group is granted the permission, else the first of refusals 1
-/// to 17 that applies.
+/// to 15, 24, 16 and 17 that applies.
 pub fn decide(base: &[u8], permission: u32, at: Context, group: &[u8]) -> u8 {
     let base = match Base::read(base) {
         Ok(base) => base,
@@ -60,8 +61,8 @@ pub fn decide(base: &[u8], permission: u32, at: Context, group: &[u8]) -> u8 {
     })
 }
 
-/// The same by a resolution list: the first of refusals 1 to 9, 22, 10, 11 and
-/// 12 to 17.
+/// The same by a resolution list: the first of refusals 1 to 9, 22, 10 to 15, 24,
+/// 16 and 17.
 pub fn decide_by(base: &[u8], permission: u32, at: Context, list: &[u8], group: &[u8]) -> u8 {
     let (base, rules) = match read_both(base, list) {
         Ok(both) => both,
@@ -79,7 +80,7 @@ fn read_both<'a>(base: &'a [u8], list: &[u8]) -> Result<(Base<'a>, Rules), u8> {
     Ok((base, Rules::read(list)?))
 }
 
-/// 0, or the first of refusals 10 to 17 that applies.
+/// 0, or the first of refusals 10 to 15, 24, 16 and 17 that applies.
 #[inline(always)]
 fn decide_checked(
     base: &Base,
@@ -97,7 +98,7 @@ fn decide_checked(
     let setting = weights::setting(base, at);
     let permission = permission as u8;
     let weights = || weights(&setting, permission);
-    groups::group_refusal(base, permission, &setting.juniors, weights, group)
+    groups::group_refusal(base, permission, &setting, weights, group)
 }
 
 /// Writes the list of conflicts, 3 bytes each. The answer carries their
@@ -118,8 +119,9 @@ pub fn conflicts(base: &[u8], out: &mut [u8]) -> Answer {
 }
 
 /// Writes a record for each permission: the number of a smallest group's
-/// entries and the group, by rising user. Later bytes keep their contents.
-/// The answer carries how many permissions have a group. No refusal writes.
+/// entries and the group, by rising user. Users out of their days are in none.
+/// Later bytes keep their contents. The answer carries how many permissions
+/// have a group. No refusal writes.
 pub fn report(base: &[u8], at: Context, out: &mut [u8]) -> Answer {
     let base = match Base::read(base) {
         Ok(base) => base,
@@ -171,7 +173,7 @@ fn fill(
 ) -> u32 {
     let setting = weights::setting(base, at);
     let w = weights(&setting);
-    let next_ends = ends::next_ends(base.users, &setting.juniors);
+    let next_ends = ends::next_ends(base.users, &setting.juniors, at.date);
     search::fill(base, &w, &next_ends, records)
 }
 
@@ -184,6 +186,7 @@ mod tests {
         minute: 600,
         day: 3,
         zone: 1,
+        date: 900,
     };
 
     /// Numbers that look random and repeat from run to run.
@@ -228,6 +231,26 @@ mod tests {
         }
     }
 
+    /// Where a table starts.
+    fn offset(base: &[u8], table: usize) -> usize {
+        let at = base.len() - 36 + 4 * table;
+        u16::from_le_bytes([base[at], base[at + 1]]).into()
+    }
+
+    /// The base with other days for its users, which begin or end at the date,
+    /// beside it or far from it.
+    fn with_days(draws: &mut Draws, mut base: Vec<u8>) -> Vec<u8> {
+        let date = AT.date as u16;
+        let users = offset(&base, 1)..offset(&base, 2);
+        for user in base[users].chunks_exact_mut(8) {
+            let first = [0, date - 1, date, date, date + 1][draws.below(5)];
+            let last = [date - 1, date, date, date + 1, 65_535][draws.below(5)];
+            user[4..6].copy_from_slice(&first.min(last).to_le_bytes());
+            user[6..].copy_from_slice(&last.max(first).to_le_bytes());
+        }
+        base
+    }
+
     fn condition(draws: &mut Draws) -> Condition {
         match draws.byte(0, 3) {
             0 => (0, draws.byte(0, 5), draws.byte(1, 6)),
@@ -246,8 +269,11 @@ mod tests {
     fn a_smallest_group_is_shown_for_each_permission() {
         let mut draws = Draws(7);
         let mut seen = [0; 1 + MOST];
-        for _ in 0..300 {
-            let base = random_plan(&mut draws).bytes();
+        for turn in 0..600 {
+            let mut base = random_plan(&mut draws).bytes();
+            if turn % 2 == 0 {
+                base = with_days(&mut draws, base);
+            }
             let mut out = [7; 4 * RECORD + 1];
             let answer = report(&base, AT, &mut out);
             let mut count = 0;
@@ -267,8 +293,8 @@ mod tests {
     }
 
     /// A plan with many policies of three roles, and its bytes with few different
-    /// issue days and ranks. Users hold those roles alone, and the clauses ask for
-    /// sums.
+    /// issue days and ranks and with users' days. Users hold those roles alone, and
+    /// the clauses ask for sums.
     fn rivals(draws: &mut Draws) -> (Plan, Vec<u8>) {
         let mut plan = random_plan(draws);
         for policy in &mut plan.policies {
@@ -279,10 +305,9 @@ mod tests {
         }
         let sum = |draws: &mut Draws| (1, draws.byte(0, 5), draws.byte(1, 16));
         plan.clauses = (0..4).map(|p| (p, vec![sum(draws)])).collect();
-        let mut base = plan.bytes();
-        let trailer = base.len() - 36;
-        let policies = usize::from(u16::from_le_bytes([base[trailer + 20], base[trailer + 21]]));
-        for policy in base[policies..trailer].chunks_exact_mut(8) {
+        let mut base = with_days(draws, plan.bytes());
+        let policies = offset(&base, 5)..offset(&base, 6);
+        for policy in base[policies].chunks_exact_mut(8) {
             (policy[5], policy[7]) = (draws.byte(0, 2), draws.byte(0, 2));
         }
         (plan, base)
@@ -317,7 +342,7 @@ mod tests {
     #[test]
     fn by_every_list_a_decision_is_the_models() {
         let mut draws = Draws(10);
-        let (mut answers, mut others) = ([0; 23], [0; 15]);
+        let (mut answers, mut others) = ([0; 25], [0; 15]);
         for _ in 0..1_000 {
             let (plan, base) = rivals(&mut draws);
             let group = random_group(&mut draws, &plan.users);
@@ -331,7 +356,7 @@ mod tests {
                 *others += usize::from(answer != without);
             }
         }
-        for answer in [0, 10, 12, 13, 14, 15, 16, 17] {
+        for answer in [0, 10, 12, 13, 14, 15, 24, 16, 17] {
             assert!(answers[answer] > 0, "{answers:?}");
         }
         assert!(others.iter().all(|&times| times > 0), "{others:?}");
@@ -392,7 +417,7 @@ mod tests {
         let (mut refusals, mut bounds) = ([0; 22], [0; 25]);
         for _ in 0..2_000 {
             let mut plan = random_plan(&mut draws);
-            let base = plan.bytes();
+            let base = with_days(&mut draws, plan.bytes());
             for _ in 0..10 {
                 let policy = number(&mut draws, 0, plan.policies.len() as u32);
                 let weight = number(&mut draws, 1, 6);
@@ -426,6 +451,8 @@ mod tests {
         };
         assert_eq!(refused(&base[1..], late, 0), 3);
         assert_eq!(refused(&base, late, 0), 11);
+        let no_date = Context { date: 65_536, ..AT };
+        assert_eq!(refused(&base, no_date, 0), 11);
         assert_eq!(refused(&base, AT, 4 * RECORD - 1), 19);
     }
 }

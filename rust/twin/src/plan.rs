@@ -1,5 +1,5 @@
 //! Bases by what a report's cost depends on: the users' roles, the hierarchy,
-//! policies without context and clauses.
+//! policies without context and clauses. Users have all days.
 
 const CODES: [u32; 8] = [3, 5, 7, 11, 13, 17, 19, 23];
 
@@ -24,7 +24,7 @@ impl Plan {
     pub fn bytes(&self) -> Vec<u8> {
         let tables = [
             records(&self.hierarchy, |&(senior, junior)| vec![senior, junior]),
-            records(&self.users, |&roles| parameter(roles).to_le_bytes().into()),
+            records(&self.users, |&roles| user(roles)),
             records(&vec![(); self.permissions.into()], |_| vec![1, 1]),
             records(&self.clauses, |(permission, conditions)| {
                 clause(*permission, conditions)
@@ -44,7 +44,7 @@ impl Plan {
         }
         bytes.extend(trailer);
         bytes.extend([8, 0, 0, 0]);
-        bytes.extend(b"LCAP");
+        bytes.extend(b"LCAQ");
         bytes
     }
 }
@@ -52,6 +52,12 @@ impl Plan {
 /// The bytes of a table and its number of records.
 fn records<T>(records: &[T], bytes: impl Fn(&T) -> Vec<u8>) -> (Vec<u8>, usize) {
     (records.iter().flat_map(bytes).collect(), records.len())
+}
+
+/// The parameter, day 0 and day 65535.
+fn user(roles: u8) -> Vec<u8> {
+    let days = [0, 0, 255, 255];
+    [parameter(roles).to_le_bytes(), days].concat()
 }
 
 /// The product of the roles' codes.

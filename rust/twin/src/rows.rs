@@ -3,6 +3,7 @@
 use crate::acting::holds_role;
 use crate::base::Base;
 use crate::related::{relations, slot, SLOTS};
+use crate::users::parameter_of;
 use crate::weights::juniors;
 
 /// 64 rows of kind 1, 64 of kind 2 and 24 of kind 3.
@@ -31,7 +32,7 @@ pub fn all_rows(base: &Base) -> [u64; ROWS] {
         });
     }
     for (user, row) in base.users.iter().zip(of_users) {
-        *row = holds_row(u32::from_le_bytes(*user), base.exclusions);
+        *row = holds_row(parameter_of(user), base.exclusions);
     }
     rows
 }

@@ -9,10 +9,11 @@ use crate::resolution::{Rules, NONE};
 /// Each role's weight.
 pub type Weights = [u8; 8];
 
-/// The context numbers that hold, as a set, and each role's juniors.
+/// The context numbers that hold, as a set, each role's juniors, and the date.
 pub struct Setting {
     contexts: u32,
     pub juniors: [u8; 8],
+    pub date: u32,
 }
 
 impl Setting {
@@ -26,9 +27,11 @@ pub fn setting(base: &Base, at: Context) -> Setting {
     Setting {
         contexts: holding(base.contexts, at),
         juniors: juniors(base.hierarchy),
+        date: at.date,
     }
 }
 
+/// The date is no parameter of conditions.
 fn holding(clauses: &[[u8; 16]], at: Context) -> u32 {
     let values = [at.minute, at.day, at.zone];
     let holding = clauses.iter().filter(|clause| clause_holds(clause, values));

@@ -193,6 +193,7 @@ mod tests {
         minute: 0,
         day: 0,
         zone: 0,
+        date: 0,
     };
 
     fn expect_numbers(plan: &Plan, number: u8) {

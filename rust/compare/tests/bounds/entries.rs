@@ -172,7 +172,7 @@ fn the_role_acted_in_counts_and_not_the_one_held() {
 #[test]
 fn a_user_acts_down_a_chain() {
     let mut base = open_base(&CHAIN);
-    base.users[0] = User { parameter: 3 };
+    base.users[0] = User::always(3);
     for role in 0..8 {
         let reached: Vec<u8> = (0..=role).collect();
         expect_reached(&base, role.into(), &reached);
@@ -183,7 +183,7 @@ fn a_user_acts_down_a_chain() {
 #[test]
 fn a_user_of_several_roles_counts_by_the_role_acted_in() {
     let mut base = open_base(&[(0, 1), (2, 3)]);
-    base.users[0] = User { parameter: 3 * 7 };
+    base.users[0] = User::always(3 * 7);
     expect(&base, 1, 5, &[[0, 0]], 4);
     expect(&base, 1, 5, &[[0, 1]], 4);
     expect(&base, 1, 5, &[[0, 2]], 0);

@@ -80,7 +80,7 @@ fn a_role_that_the_user_may_not_act_in_is_15() {
 #[test]
 fn a_user_without_roles_is_15() {
     let mut base = open_base(&CHAIN);
-    base.users[5] = User { parameter: 1 };
+    base.users[5] = User::always(1);
     for role in 0..8 {
         expect_refused(&base, 0, 3, &[[5, role]], 15);
     }
@@ -90,7 +90,7 @@ fn a_user_without_roles_is_15() {
 #[test]
 fn a_user_acts_in_roles_held_and_below() {
     let mut base = open_base(&CHAIN);
-    base.users = CODES.map(|parameter| User { parameter }).to_vec();
+    base.users = CODES.map(User::always).to_vec();
     for user in 0..8 {
         for role in 0..8 {
             if user <= role {
@@ -120,7 +120,7 @@ fn without_records_nobody_acts_down() {
 #[test]
 fn six_act_down() {
     let mut base = open_base(&CHAIN);
-    base.users = vec![User { parameter: 3 }; 6];
+    base.users = vec![User::always(3); 6];
     let six = in_roles(&[2, 3, 4, 5, 6, 7]);
     for (policy, bound) in [(1, 0), (2, 4), (3, 8), (6, 20), (7, 24)] {
         expect(&base, policy, 5, &six, bound);
@@ -130,7 +130,7 @@ fn six_act_down() {
 #[test]
 fn a_fault_is_found_at_every_place() {
     let mut base = open_base(&CHAIN);
-    base.users[6] = User { parameter: 19 };
+    base.users[6] = User::always(19);
     for place in 0..6 {
         let mut group = in_roles(&[7; 6]);
         group[place] = [6, 7];

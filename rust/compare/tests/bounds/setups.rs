@@ -26,7 +26,7 @@ pub fn open_base(pairs: &[(u8, u8)]) -> BaseBuilder {
     let parameter = ALL_ROLES;
     BaseBuilder {
         hierarchy: edges(pairs),
-        users: vec![User { parameter }; 8],
+        users: vec![User::always(parameter); 8],
         policies: (0..8)
             .map(|role| Policy::new(role, 0, 1, 1, NO_CONTEXT))
             .collect(),

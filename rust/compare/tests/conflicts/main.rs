@@ -3,6 +3,7 @@
 
 mod acting;
 mod buffers;
+mod dates;
 mod exclusive;
 mod greatest;
 mod members;

@@ -30,7 +30,7 @@ fn refusal_1_too_short() {
 
 #[test]
 fn refusal_1_too_long() {
-    let mut bytes = vec![0; 2_365];
+    let mut bytes = vec![0; 2_461];
     refused(&bytes, 1);
     let sound = three_conflicts().bytes();
     let start = bytes.len() - sound.len();
@@ -42,6 +42,8 @@ fn refusal_1_too_long() {
 fn refusal_2() {
     let base = three_conflicts();
     refused(&base.bytes_with(|trailer| trailer.letters[0] = b'l'), 2);
+    refused(&base.bytes_with(|trailer| trailer.letters = OLD_LETTERS), 2);
+    refused(&base.old_bytes(OLD_LETTERS), 2);
     refused(&[0; 36], 2);
 }
 
@@ -64,6 +66,9 @@ fn refusal_4() {
 fn refusal_5() {
     refused_after(|base| base.users = users(&[15, 0]), 5);
     refused_after(|base| base.users = users(&[7]), 5);
+    let mut turned = users(&[15, 15]);
+    turned[1].set_days(300, 299);
+    refused_after(|base| base.users = turned, 5);
 }
 
 #[test]

@@ -48,7 +48,9 @@ pub fn exclusions(records: &[(u8, u8, u8)]) -> Vec<Exclusion> {
 /// Users by their parameters.
 pub fn users(parameters: &[u32]) -> Vec<User> {
     let parameters = parameters.iter();
-    parameters.map(|&parameter| User { parameter }).collect()
+    parameters
+        .map(|&parameter| User::always(parameter))
+        .collect()
 }
 
 /// Three policies of role 1 for permission 0 with weights 1, 2 and 3: the list

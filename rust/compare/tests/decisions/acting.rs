@@ -9,7 +9,7 @@ use compare::shop::small_shop;
 fn ranked(pairs: &[(u8, u8)]) -> BaseBuilder {
     let mut base = open_base(8);
     base.hierarchy = edges(pairs);
-    base.users = CODES.map(|parameter| User { parameter }).to_vec();
+    base.users = CODES.map(User::always).to_vec();
     base
 }
 
@@ -262,7 +262,7 @@ fn a_role_not_below_r_is_13_before_15() {
 #[test]
 fn six_act_in_six_roles_below() {
     let mut base = ranked(&CHAIN);
-    base.users = vec![User { parameter: 3 }; 6];
+    base.users = vec![User::always(3); 6];
     let group = [[0, 2], [1, 3], [2, 4], [3, 5], [4, 6], [5, 7]];
     for (condition, answer) in [
         ((2, 4, 6), 0),
@@ -281,8 +281,8 @@ fn six_act_in_six_roles_below() {
 #[test]
 fn a_user_who_may_not_act_is_found_at_every_place() {
     let mut base = ranked(&CHAIN);
-    base.users = vec![User { parameter: 3 }; 6];
-    base.users.push(User { parameter: 19 });
+    base.users = vec![User::always(3); 6];
+    base.users.push(User::always(19));
     for place in 0..6 {
         let mut group = [0, 1, 2, 3, 4, 5].map(|user| [user, 7]);
         group[place] = [6, 7];

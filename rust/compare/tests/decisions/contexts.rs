@@ -4,7 +4,7 @@
 use crate::setups::*;
 use compare::builder::*;
 use compare::expect_decision;
-use compare::questions::Asked;
+use compare::questions::{Asked, SOME_DATE};
 use model::Context;
 
 /// One policy under context 0, which has these clauses.
@@ -16,10 +16,17 @@ fn under(clauses: &[&[ContextCondition]]) -> BaseBuilder {
     base
 }
 
-/// Expects this answer at a minute, a day and a zone.
+/// Expects this answer at a minute, a day and a zone, whatever the date.
 fn expect_in(base: &BaseBuilder, (minute, day, zone): (u32, u32, u32), answer: u8) {
-    let asked = Asked::new(0, Context { minute, day, zone }, &[[0, 0]]);
-    expect_decision(&base.bytes(), &asked, answer);
+    for date in [0, minute, SOME_DATE, 65_535] {
+        let at = Context {
+            minute,
+            day,
+            zone,
+            date,
+        };
+        expect_decision(&base.bytes(), &Asked::new(0, at, &[[0, 0]]), answer);
+    }
 }
 
 #[test]

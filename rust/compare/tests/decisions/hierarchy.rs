@@ -146,7 +146,7 @@ fn a_weight_reaches_40() {
 /// sum.
 fn expect_heaviest(operator: u8, value: u8, answer: u8) {
     let mut base = longest_chain();
-    base.users = vec![User { parameter: 3 }; 6];
+    base.users = vec![User::always(3); 6];
     base.group_clauses = vec![GroupClause::new(0, &[(1, operator, value)])];
     let group = [0, 1, 2, 3, 4, 5].map(|user| [user, 0]);
     expect(&base, &group, answer);

@@ -5,6 +5,7 @@ mod acting;
 mod attributes;
 mod clauses;
 mod contexts;
+mod dates;
 mod groups;
 mod hierarchy;
 mod members;

@@ -1,4 +1,4 @@
-//! Refusals 10 and 11: permission, minute, day and zone as numbers of 4 bytes
+//! Refusals 10 and 11: permission, minute, day, zone and date as numbers of 4 bytes
 //! that aren't cut.
 
 use crate::setups::*;
@@ -82,60 +82,77 @@ fn of_no_permissions_none_is_there() {
 }
 
 /// Expects this answer for a group that is granted in every context.
-fn expect_context(minute: u32, day: u32, zone: u32, answer: u8) {
-    let at = Context { minute, day, zone };
+fn expect_context(minute: u32, day: u32, zone: u32, date: u32, answer: u8) {
+    let at = Context {
+        minute,
+        day,
+        zone,
+        date,
+    };
     let asked = Asked::new(0, at, &[[0, 0]]);
     expect_decision(&open_base(1).bytes(), &asked, answer);
 }
 
 #[test]
 fn the_first_and_the_last_context_are_in_range() {
-    expect_context(0, 0, 0, 0);
-    expect_context(1439, 6, 255, 0);
+    expect_context(0, 0, 0, 0, 0);
+    expect_context(1439, 6, 255, 65_535, 0);
 }
 
 #[test]
 fn minute_1440_is_out_of_range() {
-    expect_context(1439, 0, 0, 0);
-    expect_context(1440, 0, 0, 11);
+    expect_context(1439, 0, 0, 0, 0);
+    expect_context(1440, 0, 0, 0, 11);
 }
 
 #[test]
 fn day_7_is_out_of_range() {
-    expect_context(0, 6, 0, 0);
-    expect_context(0, 7, 0, 11);
+    expect_context(0, 6, 0, 0, 0);
+    expect_context(0, 7, 0, 0, 11);
 }
 
 #[test]
 fn zone_256_is_out_of_range() {
-    expect_context(0, 0, 255, 0);
-    expect_context(0, 0, 256, 11);
+    expect_context(0, 0, 255, 0, 0);
+    expect_context(0, 0, 256, 0, 11);
+}
+
+#[test]
+fn date_65536_is_out_of_range() {
+    expect_context(0, 0, 0, 65_535, 0);
+    expect_context(0, 0, 0, 65_536, 11);
 }
 
 #[test]
 fn the_largest_number_is_out_of_every_range() {
-    expect_context(u32::MAX, 0, 0, 11);
-    expect_context(0, u32::MAX, 0, 11);
-    expect_context(0, 0, u32::MAX, 11);
-    expect_context(u32::MAX, u32::MAX, u32::MAX, 11);
+    expect_context(u32::MAX, 0, 0, 0, 11);
+    expect_context(0, u32::MAX, 0, 0, 11);
+    expect_context(0, 0, u32::MAX, 0, 11);
+    expect_context(0, 0, 0, u32::MAX, 11);
+    expect_context(u32::MAX, u32::MAX, u32::MAX, u32::MAX, 11);
 }
 
 #[test]
 fn no_part_of_a_context_is_cut() {
     for power in [11, 16, 24, 31] {
-        expect_context(600 + (1 << power), 0, 0, 11);
+        expect_context(600 + (1 << power), 0, 0, 0, 11);
     }
     for power in [3, 8, 16, 24, 31] {
-        expect_context(0, 1 << power, 0, 11);
+        expect_context(0, 1 << power, 0, 0, 11);
     }
     for power in [8, 16, 24, 31] {
-        expect_context(0, 0, 1 << power, 11);
+        expect_context(0, 0, 1 << power, 0, 11);
+    }
+    for power in [16, 17, 24, 31] {
+        expect_context(0, 0, 0, 600 + (1 << power), 11);
     }
 }
 
 #[test]
 fn two_parts_out_of_range_are_out_of_range() {
-    expect_context(1440, 7, 0, 11);
-    expect_context(0, 7, 256, 11);
-    expect_context(1440, 0, 256, 11);
+    expect_context(1440, 7, 0, 0, 11);
+    expect_context(0, 7, 256, 0, 11);
+    expect_context(1440, 0, 256, 0, 11);
+    expect_context(1440, 0, 0, 65_536, 11);
+    expect_context(0, 0, 256, 65_536, 11);
 }

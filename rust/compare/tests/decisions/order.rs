@@ -4,7 +4,7 @@
 use crate::setups::*;
 use compare::builder::*;
 use compare::expect_decision;
-use compare::questions::{at_minute, Asked};
+use compare::questions::{at_minute, Asked, SOME_DATE};
 use compare::shop::small_shop;
 
 /// Expects this answer of the small shop.
@@ -41,8 +41,10 @@ fn refusals_1_to_3_beat_10() {
     let shop = small_shop();
     expect_bad_base(&[], 1);
     expect_bad_base(&[0; 35], 1);
-    expect_bad_base(&[0; 2365], 1);
+    expect_bad_base(&[0; 2461], 1);
     expect_bad_base(&shop.bytes_with(|trailer| trailer.letters[0] = b'l'), 2);
+    expect_bad_base(&shop.bytes_with(|trailer| trailer.letters = OLD_LETTERS), 2);
+    expect_bad_base(&shop.old_bytes(OLD_LETTERS), 2);
     expect_bad_base(&shop.bytes_with(|trailer| trailer.roles = 9), 3);
     expect_bad_base(&shop.bytes(), 10);
 }
@@ -63,6 +65,7 @@ fn refusals_4_to_9_beat_10() {
     with_exclusion.exclusions = vec![exclusion];
     expect_bad_base(&spoiled(|shop| shop.hierarchy[1].junior = 3), 4);
     expect_bad_base(&spoiled(|shop| shop.users[3].parameter = 0), 5);
+    expect_bad_base(&spoiled(|shop| shop.users[3].set_days(1, 0)), 5);
     expect_bad_base(&spoiled(|shop| shop.group_clauses[0].permission = 1), 6);
     expect_bad_base(&spoiled(|shop| shop.context_clauses[0].count = 0), 7);
     expect_bad_base(&spoiled(|shop| shop.policies[2].weight = 6), 8);
@@ -207,6 +210,23 @@ fn an_absent_role_is_found_at_every_place() {
 #[test]
 fn a_role_not_to_act_in_is_found_at_every_place() {
     expect_everywhere([6, 2], 1, 15);
+}
+
+/// User 6 comes up to the day before the date. Role 1 has no weight.
+#[test]
+fn a_user_out_of_date_is_found_at_every_place() {
+    let mut base = seven_users();
+    base.users[6].set_days(0, SOME_DATE as u16 - 1);
+    for place in 0..6 {
+        let mut group = [0, 1, 2, 3, 4, 5].map(|user| [user, 0]);
+        group[place] = [6, 0];
+        expect(&base, &group, 24);
+        group[(place + 1) % 6][1] = 1;
+        group[(place + 5) % 6][1] = 1;
+        expect(&base, &group, 24);
+        group[place] = [6, 2];
+        expect(&base, &group, 15);
+    }
 }
 
 #[test]

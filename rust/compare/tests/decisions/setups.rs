@@ -5,11 +5,9 @@ use compare::questions::{at_minute, Asked};
 use compare::shop::small_shop;
 use compare::{expect_decision, sums_that_tell};
 
-/// The parameter of a user who holds all of so many roles.
+/// A user who holds all of so many roles.
 pub fn all_roles(roles: u8) -> User {
-    User {
-        parameter: CODES[..usize::from(roles)].iter().product(),
-    }
+    User::always(CODES[..usize::from(roles)].iter().product())
 }
 
 /// H records: senior, junior.

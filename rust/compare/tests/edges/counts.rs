@@ -24,8 +24,10 @@ fn with_edges(count: usize) -> Vec<u8> {
     base.bytes()
 }
 
+/// 24 times 8 bytes, and the trailer's 36.
 #[test]
 fn users_24_pass() {
+    assert_eq!(with_users(24).len(), 192 + 36);
     expect_check(&with_users(24), 0);
 }
 
@@ -36,7 +38,7 @@ fn users_25_are_refused() {
 
 fn with_users(count: usize) -> Vec<u8> {
     let mut base = BaseBuilder::new(1);
-    base.users = vec![User { parameter: 3 }; count];
+    base.users = vec![User::always(3); count];
     base.bytes()
 }
 
@@ -129,9 +131,9 @@ fn the_largest_count_is_refused_in_every_table() {
     }
 }
 
-/// 16,384 users would take 65,536 bytes, which is 0 in 16 bits.
+/// 8,192 users would take 65,536 bytes, which is 0 in 16 bits.
 #[test]
 fn a_count_whose_bytes_wrap_to_0_is_refused() {
-    let base = BaseBuilder::new(1).bytes_with(|trailer| trailer.places[1].count = 16_384);
+    let base = BaseBuilder::new(1).bytes_with(|trailer| trailer.places[1].count = 8_192);
     expect_check(&base, 3);
 }

@@ -17,7 +17,7 @@ fn sound() -> BaseBuilder {
     };
     BaseBuilder {
         hierarchy: vec![edge; 2],
-        users: vec![User { parameter: 15 }; 2],
+        users: vec![User::always(15); 2],
         group_clauses: vec![GroupClause::new(0, &[(0, 2, 2)]); 2],
         context_clauses: vec![ContextClause::new(0, &[(0, 2, 540)]); 2],
         policies: vec![Policy::new(0, 0, 1, 0, NO_CONTEXT); 2],
@@ -61,6 +61,26 @@ fn a_bad_last_user_beats_a_bad_first_group_clause() {
     base.group_clauses[0].count = 0;
     expect_check(&base.bytes(), 6);
     base.users[1].parameter = 9;
+    expect_check(&base.bytes(), 5);
+}
+
+#[test]
+fn a_bad_last_edge_beats_turned_days_of_the_first_user() {
+    let mut base = sound();
+    base.users[0].set_days(300, 299);
+    expect_check(&base.bytes(), 5);
+    base.hierarchy[1].junior = 3;
+    expect_check(&base.bytes(), 4);
+    expect_check(&base.bytes_with(|trailer| trailer.zeros[0] = 1), 3);
+    expect_check(&base.bytes_with(|trailer| trailer.letters = OLD_LETTERS), 2);
+}
+
+#[test]
+fn turned_days_of_the_last_user_beat_a_bad_first_group_clause() {
+    let mut base = sound();
+    base.group_clauses[0].count = 0;
+    expect_check(&base.bytes(), 6);
+    base.users[1].set_days(1, 0);
     expect_check(&base.bytes(), 5);
 }
 

@@ -9,8 +9,8 @@ fn the_small_shop_passes() {
 }
 
 #[test]
-fn the_small_shop_has_114_bytes() {
-    assert_eq!(small_shop().bytes().len(), 114);
+fn the_small_shop_has_130_bytes() {
+    assert_eq!(small_shop().bytes().len(), 130);
 }
 
 #[test]
@@ -19,14 +19,14 @@ fn the_small_shops_offsets_are_the_papers() {
     small_shop().bytes_with(|trailer| {
         offsets.extend(trailer.places.iter().map(|place| place.offset));
     });
-    assert_eq!(offsets, [0, 4, 20, 22, 38, 54, 78]);
+    assert_eq!(offsets, [0, 4, 36, 38, 54, 70, 94]);
 }
 
 #[test]
 fn the_small_shop_one_byte_short_is_refused() {
     let base = small_shop().bytes();
     expect_check(&base[1..], 3);
-    expect_check(&base[..113], 2);
+    expect_check(&base[..129], 2);
 }
 
 #[test]

@@ -1,6 +1,6 @@
 //! Refusals 1 to 3: length, letters and the rest of the trailer.
 
-use compare::builder::{BaseBuilder, Trailer, User, LETTERS};
+use compare::builder::{BaseBuilder, Trailer, User, LETTERS, OLD_LETTERS};
 use compare::expect_check;
 use compare::random::Random;
 use compare::shop::small_shop;
@@ -11,7 +11,7 @@ fn tiny() -> Vec<u8> {
     BaseBuilder::new(1).bytes()
 }
 
-/// A base with every table full: 2,364 bytes.
+/// A base with every table full: 2,460 bytes.
 fn largest() -> Vec<u8> {
     random_base(&mut Random::new(5), Size::Full).bytes()
 }
@@ -53,30 +53,30 @@ fn length_36_of_zero_bytes_has_no_letters() {
 }
 
 #[test]
-fn length_2364_passes() {
-    assert_eq!(largest().len(), 2364);
+fn length_2460_passes() {
+    assert_eq!(largest().len(), 2460);
     expect_check(&largest(), 0);
 }
 
 #[test]
-fn length_2364_of_zero_bytes_has_no_letters() {
-    expect_check(&[0; 2364], 2);
+fn length_2460_of_zero_bytes_has_no_letters() {
+    expect_check(&[0; 2460], 2);
 }
 
 #[test]
-fn length_2365_with_good_letters_is_too_long() {
+fn length_2461_with_good_letters_is_too_long() {
     expect_check(&preceded(1, &largest()), 1);
 }
 
 #[test]
-fn length_2365_with_bad_letters_is_too_long() {
+fn length_2461_with_bad_letters_is_too_long() {
     expect_check(&[&largest()[..], &[0]].concat(), 1);
 }
 
 #[test]
-fn length_2364_with_a_gap_is_not_filled() {
-    let base = preceded(2364 - 36, &tiny());
-    assert_eq!(base.len(), 2364);
+fn length_2460_with_a_gap_is_not_filled() {
+    let base = preceded(2460 - 36, &tiny());
+    assert_eq!(base.len(), 2460);
     expect_check(&base, 3);
 }
 
@@ -100,12 +100,62 @@ fn each_of_the_four_letters_counts() {
 
 #[test]
 fn small_letters_are_refused() {
-    expect_check(&tiny_with(|trailer| trailer.letters = *b"lcap"), 2);
+    expect_check(&tiny_with(|trailer| trailer.letters = *b"lcaq"), 2);
 }
 
 #[test]
 fn letters_in_another_order_are_refused() {
-    expect_check(&tiny_with(|trailer| trailer.letters = *b"PACL"), 2);
+    expect_check(&tiny_with(|trailer| trailer.letters = *b"QACL"), 2);
+}
+
+#[test]
+fn the_old_letters_are_refused() {
+    assert_eq!(OLD_LETTERS, *b"LCAP");
+    expect_check(&tiny_with(|trailer| trailer.letters = OLD_LETTERS), 2);
+    let shop = small_shop().bytes_with(|trailer| trailer.letters = OLD_LETTERS);
+    expect_check(&shop, 2);
+}
+
+/// The old form has a user's parameter alone: the small shop's tables behind its
+/// four users lie 16 bytes earlier.
+#[test]
+fn the_old_form_is_refused() {
+    let old = small_shop().old_bytes(OLD_LETTERS);
+    assert_eq!(old.len(), 130 - 16);
+    expect_check(&old, 2);
+}
+
+/// Four users take 32 bytes, so that P has to lie at 36 and not 16 bytes earlier.
+#[test]
+fn the_old_form_with_the_new_letters_does_not_fill_its_bytes() {
+    expect_check(&small_shop().old_bytes(LETTERS), 3);
+    let mut one_user = BaseBuilder::new(1);
+    one_user.users.push(User::always(3));
+    expect_check(&one_user.old_bytes(LETTERS), 3);
+    expect_check(&one_user.old_bytes(OLD_LETTERS), 2);
+}
+
+/// Without users the two forms differ in the letters alone.
+#[test]
+fn the_old_form_without_users_needs_the_new_letters() {
+    let mut shop = small_shop();
+    shop.users.clear();
+    expect_check(&shop.old_bytes(LETTERS), 0);
+    expect_check(&shop.old_bytes(OLD_LETTERS), 2);
+}
+
+/// The longest base of the old form is shorter by the days of 24 users, and one of
+/// 2,461 bytes is too long in whatever letters.
+#[test]
+fn length_comes_before_the_old_letters() {
+    let full = random_base(&mut Random::new(6), Size::Full);
+    let old = full.old_bytes(OLD_LETTERS);
+    let days = 24 * 4;
+    assert_eq!(old.len(), 2460 - days);
+    expect_check(&old, 2);
+    expect_check(&preceded(days + 1, &old), 1);
+    expect_check(&preceded(days, &old), 2);
+    expect_check(&preceded(days, &full.old_bytes(LETTERS)), 3);
 }
 
 #[test]
@@ -113,7 +163,7 @@ fn letters_come_before_the_number_of_roles() {
     expect_check(&tiny_with(|trailer| trailer.roles = 9), 3);
     let base = tiny_with(|trailer| {
         trailer.roles = 9;
-        trailer.letters[3] = b'p';
+        trailer.letters[3] = b'q';
     });
     expect_check(&base, 2);
 }
@@ -133,7 +183,7 @@ fn length_comes_before_the_letters_and_places() {
         trailer.letters[0] = 0;
         trailer.places[0].offset = 1;
     });
-    expect_check(&preceded(2364, &base), 1);
+    expect_check(&preceded(2460, &base), 1);
 }
 
 #[test]
@@ -184,10 +234,10 @@ fn an_empty_base_has_all_offsets_at_0() {
     }
 }
 
-/// One user: H lies at 0, U at 0, and the empty tables behind U at 4.
+/// One user: H lies at 0, U at 0, and the empty tables behind U at 8.
 fn one_user_with(change: impl FnOnce(&mut Trailer)) -> Vec<u8> {
     let mut base = BaseBuilder::new(1);
-    base.users.push(User { parameter: 1 });
+    base.users.push(User::always(1));
     base.bytes_with(change)
 }
 
@@ -195,7 +245,7 @@ fn one_user_with(change: impl FnOnce(&mut Trailer)) -> Vec<u8> {
 fn an_empty_table_at_the_running_offset_passes() {
     let base = one_user_with(|trailer| {
         let offsets: Vec<u16> = trailer.places.iter().map(|place| place.offset).collect();
-        assert_eq!(offsets, [0, 0, 4, 4, 4, 4, 4]);
+        assert_eq!(offsets, [0, 0, 8, 8, 8, 8, 8]);
     });
     expect_check(&base, 0);
 }
@@ -211,7 +261,7 @@ fn an_empty_table_before_the_running_offset_is_refused() {
 #[test]
 fn an_empty_table_behind_the_running_offset_is_refused() {
     for table in 0..7 {
-        let base = one_user_with(|trailer| trailer.places[table].offset += 4);
+        let base = one_user_with(|trailer| trailer.places[table].offset += 8);
         expect_check(&base, 3);
     }
 }
@@ -264,9 +314,9 @@ fn a_gap_before_the_first_table_is_refused() {
 #[test]
 fn tables_in_another_order_are_refused() {
     let mut base = BaseBuilder::new(1);
-    base.users.push(User { parameter: 1 });
-    let base = base.with_permissions(2).bytes_with(|trailer| {
-        trailer.places[1].offset = 4;
+    base.users.push(User::always(1));
+    let base = base.with_permissions(4).bytes_with(|trailer| {
+        trailer.places[1].offset = 8;
         trailer.places[2].offset = 0;
     });
     expect_check(&base, 3);

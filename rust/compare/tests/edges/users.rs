@@ -1,12 +1,13 @@
-//! Refusal 5: role assignment parameters.
+//! Refusal 5: role assignment parameters and days.
 
 use compare::builder::{BaseBuilder, User};
 use compare::expect_check;
+use compare::shop::small_shop;
 
 /// Expects this answer for a base of one user.
 fn expect_parameter(roles: u8, parameter: u32, answer: u8) {
     let mut base = BaseBuilder::new(roles);
-    base.users.push(User { parameter });
+    base.users.push(User::always(parameter));
     expect_check(&base.bytes(), answer);
 }
 
@@ -132,7 +133,7 @@ fn all_four_bytes_of_a_parameter_count() {
 #[test]
 fn two_users_may_share_a_parameter() {
     let mut base = BaseBuilder::new(3);
-    base.users = vec![User { parameter: 15 }; 2];
+    base.users = vec![User::always(15); 2];
     expect_check(&base.bytes(), 0);
 }
 
@@ -140,7 +141,7 @@ fn two_users_may_share_a_parameter() {
 fn a_bad_user_is_found_at_every_place() {
     for place in 0..24 {
         let mut base = BaseBuilder::new(3);
-        base.users = vec![User { parameter: 7 }; 24];
+        base.users = vec![User::always(7); 24];
         base.users[place].parameter = 49;
         expect_check(&base.bytes(), 5);
     }
@@ -152,9 +153,139 @@ fn a_bad_user_is_found_among_users_of_few_roles() {
     for parameter in [1, 3] {
         for place in 0..24 {
             let mut base = BaseBuilder::new(8);
-            base.users = vec![User { parameter }; 24];
+            base.users = vec![User::always(parameter); 24];
             base.users[place].parameter = 29 * parameter;
             expect_check(&base.bytes(), 5);
         }
     }
+}
+
+/// Expects this answer for a base of one user with these days.
+fn expect_days(first_day: u16, last_day: u16, answer: u8) {
+    let mut base = BaseBuilder::new(3);
+    base.users.push(User {
+        first_day,
+        last_day,
+        parameter: 15,
+    });
+    expect_check(&base.bytes(), answer);
+}
+
+#[test]
+fn days_0_and_65535_pass() {
+    expect_days(0, 65_535, 0);
+}
+
+#[test]
+fn one_day_passes() {
+    for day in [1, 254, 255, 256, 32_767, 32_768, 65_534] {
+        expect_days(day, day, 0);
+    }
+}
+
+#[test]
+fn the_first_day_alone_and_the_last_day_alone_pass() {
+    expect_days(0, 0, 0);
+    expect_days(65_535, 65_535, 0);
+}
+
+#[test]
+fn a_first_day_above_the_last_by_one_is_refused() {
+    for last in [0, 1, 127, 128, 255, 256, 32_767, 32_768, 65_534] {
+        expect_days(last + 1, last, 5);
+        expect_days(last, last + 1, 0);
+    }
+}
+
+#[test]
+fn a_first_day_far_above_the_last_is_refused() {
+    expect_days(65_535, 0, 5);
+    expect_days(65_535, 32_767, 5);
+    expect_days(32_768, 0, 5);
+    expect_days(256, 0, 5);
+}
+
+/// 0x0100 is above 0x00ff, though its low byte is below.
+#[test]
+fn days_are_little_endian() {
+    let mut base = BaseBuilder::new(3);
+    base.users.push(User::always(15));
+    let mut bytes = base.bytes();
+    assert_eq!(bytes[..8], [15, 0, 0, 0, 0, 0, 255, 255]);
+    for (days, answer) in [
+        ([0x00, 0x01, 0xff, 0x00], 5),
+        ([0xff, 0x00, 0x00, 0x01], 0),
+        ([0x01, 0x00, 0x00, 0x01], 0),
+        ([0x00, 0x01, 0x01, 0x00], 5),
+        ([0xff, 0x01, 0x00, 0x02], 0),
+        ([0x00, 0x02, 0xff, 0x01], 5),
+    ] {
+        bytes[4..8].copy_from_slice(&days);
+        expect_check(&bytes, answer);
+    }
+}
+
+#[test]
+fn all_days_are_free_whatever_the_parameter_is() {
+    let mut base = BaseBuilder::new(8);
+    base.users = [1, 3, 23, 111_546_435].map(User::always).to_vec();
+    base.users[0].last_day = 0;
+    base.users[1].first_day = 65_535;
+    base.users[3].last_day = 7;
+    expect_check(&base.bytes(), 0);
+}
+
+#[test]
+fn two_users_may_share_days_and_a_user_may_have_others() {
+    let mut shop = small_shop();
+    for (user, first, last) in [(0, 5, 5), (1, 5, 5), (2, 6, 600), (3, 0, 4)] {
+        shop.users[user].set_days(first, last);
+    }
+    expect_check(&shop.bytes(), 0);
+}
+
+#[test]
+fn turned_days_are_found_at_every_place() {
+    for place in 0..24 {
+        let mut base = BaseBuilder::new(3);
+        base.users = vec![User::always(7); 24];
+        base.users[place].set_days(299, 299);
+        expect_check(&base.bytes(), 0);
+        base.users[place].set_days(300, 299);
+        expect_check(&base.bytes(), 5);
+    }
+}
+
+/// One user's first day isn't held against another user's last day.
+#[test]
+fn each_user_has_days_of_its_own() {
+    let mut shop = small_shop();
+    shop.users[0].set_days(600, 700);
+    shop.users[1].set_days(1, 2);
+    expect_check(&shop.bytes(), 0);
+}
+
+/// Either fault gets 5, and both do.
+#[test]
+fn turned_days_in_the_last_user_and_a_bad_parameter_in_the_first() {
+    let turned = || {
+        let mut shop = small_shop();
+        shop.users[3].set_days(1, 0);
+        shop
+    };
+    expect_check(&turned().bytes(), 5);
+    let mut both = turned();
+    both.users[0].parameter = 9;
+    expect_check(&both.bytes(), 5);
+    let mut parameter_alone = small_shop();
+    parameter_alone.users[0].parameter = 9;
+    expect_check(&parameter_alone.bytes(), 5);
+}
+
+#[test]
+fn turned_days_and_a_bad_parameter_in_the_same_user() {
+    let mut shop = small_shop();
+    shop.users[2].set_days(1, 0);
+    shop.users[2].parameter = 0;
+    expect_check(&shop.bytes(), 5);
 }

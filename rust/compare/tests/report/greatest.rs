@@ -44,7 +44,7 @@ fn a_group_among_the_most_sums() {
     }
 }
 
-/// Every table is full: 2,364 bytes. Permission p asks for 1 + p % 6 entries.
+/// Every table is full: 2,460 bytes. Permission p asks for 1 + p % 6 entries.
 #[test]
 fn the_longest_base() {
     let role = |permission: u8| permission % 8;
@@ -74,7 +74,7 @@ fn the_longest_base() {
         ],
         ..BaseBuilder::new(8).with_permissions(16)
     };
-    assert_eq!(base.bytes().len(), 2_364);
+    assert_eq!(base.bytes().len(), 2_460);
     let numbers: Vec<u8> = (0..16).map(|permission| 1 + permission % 6).collect();
     expect_numbers(&base, &numbers);
 }

@@ -6,6 +6,7 @@ mod acting;
 mod buffers;
 mod caps;
 mod clauses;
+mod dates;
 mod greatest;
 mod groups;
 mod multisets;

@@ -3,18 +3,19 @@
 
 use compare::builder::*;
 use compare::expect_report_refused;
-use compare::questions::at_minute;
+use compare::questions::{at_date, at_minute};
 use compare::shop::small_shop;
 use model::Context;
 
 /// The contexts in range and out of range that a base is refused in.
-fn contexts() -> [Context; 4] {
+fn contexts() -> [Context; 5] {
     let at = at_minute(600);
     [
         at,
         at_minute(1440),
         Context { day: 7, ..at },
         Context { zone: 256, ..at },
+        at_date(600, 65_536),
     ]
 }
 
@@ -37,7 +38,7 @@ fn refusal_1() {
     refused(&[], 1);
     refused(&BaseBuilder::new(1).bytes()[1..], 1);
     let sound = small_shop().bytes();
-    let mut bytes = vec![0; 2_365];
+    let mut bytes = vec![0; 2_461];
     let start = bytes.len() - sound.len();
     bytes[start..].copy_from_slice(&sound);
     refused(&bytes, 1);
@@ -46,7 +47,9 @@ fn refusal_1() {
 #[test]
 fn refusal_2() {
     let base = small_shop();
-    refused(&base.bytes_with(|trailer| trailer.letters[3] = b'p'), 2);
+    refused(&base.bytes_with(|trailer| trailer.letters[3] = b'q'), 2);
+    refused(&base.bytes_with(|trailer| trailer.letters = OLD_LETTERS), 2);
+    refused(&base.old_bytes(OLD_LETTERS), 2);
 }
 
 #[test]
@@ -55,6 +58,7 @@ fn refusal_3() {
     refused(&base.bytes_with(|trailer| trailer.zeros[2] = 1), 3);
     refused(&base.bytes_with(|trailer| trailer.roles = 9), 3);
     refused(&base.bytes_with(|trailer| trailer.places[2].count = 2), 3);
+    refused(&base.old_bytes(LETTERS), 3);
 }
 
 #[test]
@@ -66,6 +70,7 @@ fn refusal_4() {
 fn refusal_5() {
     refused_after(|base| base.users[3].parameter = 0, 5);
     refused_after(|base| base.users[3].parameter = 11, 5);
+    refused_after(|base| base.users[3].set_days(1, 0), 5);
 }
 
 #[test]
@@ -118,6 +123,7 @@ fn the_last_context_in_range_is_allowed() {
         minute: 1439,
         day: 6,
         zone: 255,
+        date: 65_535,
     };
     compare::expect_report(&small_shop().bytes(), at, 13, &[2]);
 }
@@ -135,6 +141,9 @@ fn numbers_of_a_context_are_not_cut() {
             zone: u32::MAX,
             ..at
         },
+        at_date(600, 65_536 + 600),
+        at_date(600, 1 << 24),
+        at_date(600, u32::MAX),
     ];
     for at in cut {
         expect_report_refused(&small_shop().bytes(), at, 13, 11);

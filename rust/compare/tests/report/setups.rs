@@ -1,9 +1,10 @@
 //! Bases that the edges start from, and what is expected of their reports.
 
 use compare::builder::*;
-use compare::questions::at_minute;
+use compare::questions::{at_date, at_minute, SOME_DATE};
 use compare::shown::RECORD;
 use compare::{expect_report, expect_report_refused, library_context};
+use model::Context;
 
 /// Expects these smallest numbers at minute 600, with buffers that are just
 /// long enough and longer, and 19 with shorter ones.
@@ -13,7 +14,16 @@ pub fn expect_numbers(base: &BaseBuilder, numbers: &[u8]) {
 
 /// The same at another minute.
 pub fn expect_numbers_at(minute: u32, base: &BaseBuilder, numbers: &[u8]) {
-    let (bytes, at) = (base.bytes(), at_minute(minute));
+    expect_numbers_in(at_minute(minute), base, numbers);
+}
+
+/// The same at minute 600 on a date.
+pub fn expect_numbers_on(date: u32, base: &BaseBuilder, numbers: &[u8]) {
+    expect_numbers_in(at_date(600, date), base, numbers);
+}
+
+fn expect_numbers_in(at: Context, base: &BaseBuilder, numbers: &[u8]) {
+    let bytes = base.bytes();
     let whole = RECORD * numbers.len();
     for length in [whole, whole + 1, whole + 40] {
         expect_report(&bytes, at, length, numbers);
@@ -27,22 +37,26 @@ pub fn expect_numbers_at(minute: u32, base: &BaseBuilder, numbers: &[u8]) {
 
 /// Expects that permission 0's only smallest group at minute 600 is this one.
 pub fn expect_only_group(base: &BaseBuilder, group: &[[u8; 2]]) {
+    expect_only_group_on(SOME_DATE, base, group);
+}
+
+/// The same on a date.
+pub fn expect_only_group_on(date: u32, base: &BaseBuilder, group: &[[u8; 2]]) {
     let k = group.len() as u8;
-    expect_numbers(base, &[k]);
+    expect_numbers_on(date, base, &[k]);
     let mut expected = [255; RECORD];
     expected[0] = k;
     expected[1..1 + 2 * group.len()].copy_from_slice(&group.concat());
     let mut found = [0; RECORD];
-    release::answers::report(&base.bytes(), library_context(at_minute(600)), &mut found);
+    let at = library_context(at_date(600, date));
+    release::answers::report(&base.bytes(), at, &mut found);
     assert_eq!(found, expected);
 }
 
 /// A user who holds these roles.
 pub fn user(roles: &[u8]) -> User {
     let codes = roles.iter().map(|role| CODES[usize::from(*role)]);
-    User {
-        parameter: codes.product(),
-    }
+    User::always(codes.product())
 }
 
 /// Users by the roles that they hold.

@@ -2,6 +2,7 @@
 //! out from the rules, and the library, the twin and the model must all give it.
 
 mod contexts;
+mod dates;
 mod lists;
 mod order;
 mod reports;

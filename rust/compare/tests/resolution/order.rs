@@ -1,5 +1,5 @@
-//! The order of refusals: 1 to 9, 22, 10, 11 and 12 to 17 for a decision, 1 to 9,
-//! 22, 11 and 19 for a report.
+//! The order of refusals: 1 to 9, 22, 10 to 15, 24, 16 and 17 for a decision, 1 to
+//! 9, 22, 11 and 19 for a report.
 
 use compare::lists::{ILLEGAL, LEGAL};
 use compare::questions::{at_minute, Asked};

@@ -17,7 +17,7 @@ fn five_policies() -> BaseBuilder {
         ..Policy::new(2, 0, 5 - i, 0, NO_CONTEXT)
     };
     BaseBuilder {
-        users: vec![User { parameter: 7 }; 5],
+        users: vec![User::always(7); 5],
         group_clauses: vec![GroupClause::new(0, &[(1, 2, 5)])],
         policies: (0..5).map(of_clerk).collect(),
         ..small_shop()
@@ -78,7 +78,7 @@ fn by_a_list_a_group_may_be_granted_that_else_is_not() {
 fn inh_is_chosen_among_type_1() {
     let policies = [inherited(1, 2, 5), issued(3, 3, 3), inherited(2, 1, 2)];
     let base = BaseBuilder {
-        users: [3, 7].map(|parameter| User { parameter }).to_vec(),
+        users: [3, 7].map(User::always).to_vec(),
         group_clauses: vec![GroupClause::new(0, &[(1, 4, 5)])],
         ..with_policies(&policies)
     };
@@ -97,7 +97,7 @@ fn each_permission_is_chosen_for_by_itself() {
         ..Policy::new(2, 0, weight, 0, NO_CONTEXT)
     };
     let base = BaseBuilder {
-        users: vec![User { parameter: 7 }; 5],
+        users: vec![User::always(7); 5],
         group_clauses: [0, 1].map(|p| GroupClause::new(p, &[(1, 2, 5)])).to_vec(),
         policies: vec![of(0, 1, 5), of(1, 1, 1), of(1, 2, 5), of(0, 2, 1)],
         ..small_shop().with_permissions(2)

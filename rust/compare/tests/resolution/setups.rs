@@ -35,7 +35,7 @@ pub fn with_policies(policies: &[Policy]) -> BaseBuilder {
     let parameter = CODES[..3].iter().product();
     BaseBuilder {
         hierarchy: vec![edge(0, 1), edge(1, 2)],
-        users: vec![User { parameter }; 2],
+        users: vec![User::always(parameter); 2],
         group_clauses: vec![GroupClause::new(0, &[(0, 2, 1)])],
         context_clauses: vec![ContextClause::new(0, &[(0, 2, 540), (0, 3, 1020)])],
         policies: policies.to_vec(),

@@ -23,7 +23,9 @@ pub fn sound_bases(bases: usize, attempt: impl FnMut(&[u8], &Changed)) {
 fn compare_bound(seen: &mut Seen, base: &[u8], changed: &Changed) {
     let (refusal, bound) = agreed_bound(base, changed);
     seen.answer(Call::Bound, refusal);
-    expect_as_decided(base, changed, refusal);
+    let decided = expect_as_decided(base, changed, refusal);
+    seen.dated
+        .bounded_out_of_date(decided == 24 && refusal == 0);
     if refusal != 0 {
         return;
     }
@@ -39,14 +41,15 @@ fn compare_bound(seen: &mut Seen, base: &[u8], changed: &Changed) {
 }
 
 /// Refusals 1 to 9 and 12 to 15 are those of the decision, for a permission that
-/// is there and a context in range; where it gives another answer, the bound has
-/// no refusal but 21.
-fn expect_as_decided(base: &[u8], changed: &Changed, refusal: u8) {
-    let at = release::Context::new(600, 0, 0);
+/// is there and a context in range; where it gives another answer, 24 too, the
+/// bound has no refusal but 21. The decision's answer.
+fn expect_as_decided(base: &[u8], changed: &Changed, refusal: u8) -> u32 {
+    let at = release::Context::new(600, 0, 0, 0);
     let decided = release::answers::decide(base, 0, at, &changed.group);
     match decided {
         1..=9 | 12..=15 => assert_eq!(u32::from(refusal), decided),
         10 => assert!(9 < refusal),
         _ => assert!([0, 21].contains(&refusal)),
     }
+    decided
 }

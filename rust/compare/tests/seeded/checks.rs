@@ -3,8 +3,10 @@
 use compare::agreed_check;
 use compare::builder::{BaseBuilder, Image};
 use compare::damage::*;
+use compare::days::turn_days;
 use compare::random::Random;
 use compare::valid::{random_base, Size};
+use model::Reading;
 
 use crate::seen::{Call, Seen};
 
@@ -18,6 +20,9 @@ pub fn compare(seen: &mut Seen) {
 fn compare_base(seen: &mut Seen, base: &[u8]) -> u8 {
     let answer = agreed_check(base);
     seen.answer(Call::Check, answer);
+    let by = |reading| model::check_as(reading, base);
+    seen.dated
+        .turned_alone(answer == 5 && by(Reading::DaysTurned) != 5);
     answer
 }
 
@@ -57,9 +62,9 @@ fn spoiled_bases(seen: &mut Seen) {
     }
 }
 
-/// A table at its limit or above, and a clause without conditions.
+/// A table at its limit or above, a clause without conditions, and days turned.
 fn spoil_records(random: &mut Random, base: &BaseBuilder, seen: &mut Seen) {
-    for spoil in [crowd, empty_clause] {
+    for spoil in [crowd, empty_clause, turn_days] {
         let mut base = base.clone();
         spoil(random, &mut base);
         compare_base(seen, &base.bytes());

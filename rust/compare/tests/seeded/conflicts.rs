@@ -5,6 +5,7 @@ use compare::agreed_conflicts;
 use compare::builder::BaseBuilder;
 use compare::clashing::clashing_base;
 use compare::damage::*;
+use compare::days::{turn_days, with_all_days};
 use compare::lent::Lent;
 use compare::lively::{full_base, lively_base};
 use compare::random::Random;
@@ -35,7 +36,20 @@ fn compare_at(seen: &mut Seen, random: &mut Random, base: &[u8], length: usize) 
     let answer = agreed_conflicts(base, &mut lent);
     seen.answer(Call::Conflicts, answer.refusal);
     if answer.refusal == 0 {
-        seen.conflicts(&lent.buffer()[..3 * answer.count as usize]);
+        let list = &lent.buffer()[..3 * answer.count as usize];
+        seen.conflicts(list);
+        expect_without_days(seen, base, list);
+    }
+}
+
+/// Users' days change no list.
+fn expect_without_days(seen: &mut Seen, base: &[u8], list: &[u8]) {
+    let with_all = with_all_days(base);
+    if with_all != base {
+        let mut again = vec![0; list.len()];
+        let answer = release::answers::conflicts(&with_all, &mut again);
+        assert_eq!((answer.refusal, &again[..]), (0, list), "base {base:?}");
+        seen.dated.list_with_days(!list.is_empty());
     }
 }
 
@@ -63,7 +77,8 @@ pub fn sound_bases(bases: usize, mut attempt: impl FnMut(&mut Random, &[u8])) {
     }
 }
 
-/// Changed bytes, a table at its limit or above, a clause without conditions.
+/// Changed bytes, a table at its limit or above, a clause without conditions,
+/// days turned.
 fn damaged_bases(seen: &mut Seen) {
     let mut random = Random::new(42);
     for _ in 0..2_000 {
@@ -73,7 +88,7 @@ fn damaged_bases(seen: &mut Seen) {
             let damaged = any_damage(&mut random, &image);
             compare_base(seen, &mut random, &damaged);
         }
-        for spoil in [crowd, empty_clause] {
+        for spoil in [crowd, empty_clause, turn_days] {
             let mut records = records.clone();
             spoil(&mut random, &mut records);
             compare_base(seen, &mut random, &records.bytes());

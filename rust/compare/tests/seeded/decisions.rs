@@ -12,6 +12,8 @@ pub fn compare(seen: &mut Seen) {
     let mut compare = |base: &[u8], asked: &Asked| {
         let answer = agreed_decision(base, asked);
         seen.answer(Call::Decide, answer);
+        seen.dated
+            .decided(base, asked.at.date, &asked.group, answer);
         if answer == 0 {
             let base = Base::read(base).expect("a refused base grants nothing");
             let records = most_records_down(&base, &asked.group);

@@ -5,6 +5,7 @@ use compare::builder::BaseBuilder;
 use compare::cases;
 use compare::choices::events;
 use compare::damage::*;
+use compare::days::{losses, turn_days};
 use compare::lent::Lent;
 use compare::lists::{any_list, illegal_list, LEGAL};
 use compare::lively::{full_base, lively_base};
@@ -107,7 +108,10 @@ fn compare_reports(seen: &mut Seen, random: &mut Random, records: &BaseBuilder) 
         let mut lent = Lent::noisy(random, length);
         let answer = agreed_report_by(&base, at, list, &mut lent);
         seen.answer(Call::ReportBy, answer.refusal);
-        numbers(&lent.buffer()[..whole])
+        let numbers = numbers(&lent.buffer()[..whole]);
+        let losses = losses(&base, at, Some(list), &numbers);
+        seen.dated.losses_by_list(&losses);
+        numbers
     });
     let mut lent = Lent::noisy(random, whole);
     agreed_report(&base, at, &mut lent);
@@ -162,8 +166,8 @@ fn sound_base(random: &mut Random) -> BaseBuilder {
     }
 }
 
-/// Bases as they are, with changed bytes, with a table at its limit or above and
-/// with a clause without conditions; and any bytes.
+/// Bases as they are, with changed bytes, with a table at its limit or above,
+/// with a clause without conditions and with days turned; and any bytes.
 fn reports_of_all_kinds(seen: &mut Seen) {
     let mut random = Random::new(165);
     for _ in 0..1_000 {
@@ -174,7 +178,7 @@ fn reports_of_all_kinds(seen: &mut Seen) {
             let damaged = any_damage(&mut random, &image);
             compare_any_report(seen, &mut random, &damaged, &records);
         }
-        for spoil in [crowd, empty_clause] {
+        for spoil in [crowd, empty_clause, turn_days] {
             let mut spoilt = records.clone();
             spoil(&mut random, &mut spoilt);
             compare_any_report(seen, &mut random, &spoilt.bytes(), &records);

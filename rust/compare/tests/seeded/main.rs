@@ -1,11 +1,13 @@
-//! Compares the calls on many random bases, sound and damaged, shows that each
-//! wrong reading of the rules would be noticed, and tries what is said of a
-//! changed weight.
+//! Compares the calls on many random bases, sound, damaged and of the form before
+//! users had days, shows that each wrong reading of the rules would be noticed,
+//! and tries what is said of a changed weight.
 
 mod bounds;
 mod checks;
 mod conflicts;
+mod dated;
 mod decisions;
+mod forms;
 mod listed;
 mod lists;
 mod parameters;
@@ -37,6 +39,7 @@ fn seeded_comparison() {
     bounds::compare(&mut seen);
     lists::compare(&mut seen);
     parameters::compare(&mut seen);
+    forms::compare(&mut seen);
     let taken = start.elapsed();
     seen.print(taken);
     seen.expect_all();

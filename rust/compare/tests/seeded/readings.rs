@@ -1,15 +1,34 @@
 //! The wrong readings planted in the model: the first bases of the comparison
 //! show each of them, in every call whose answer it can change.
 
+use compare::bounds::Changed;
+use compare::changes::random_change;
 use compare::lent::Lent;
 use compare::lists::{illegal_list, List, LEGAL};
-use compare::questions::{context_in_range, Asked};
+use compare::questions::{context_in_range, random_question, Asked};
+use compare::random::Random;
 use compare::sheets::SheetCall;
 use compare::shown::{numbers, RECORD};
 use compare::{library_decision, library_report};
 use model::{Context, Reading, Sheet};
 
+use crate::forms::{self, Misshapen};
 use crate::{bounds, conflicts, decisions, lists, parameters, reports, sheets};
+
+/// How many of the misshapen bases each call is tried on, four ways each.
+const MISSHAPEN: usize = 20;
+
+/// In how many cases the library's check isn't the model's by a reading.
+fn checks_that_differ(reading: Reading) -> usize {
+    let mut found = 0;
+    let mut compare = |base: &[u8]| {
+        let by_model = model::check_as(reading, base);
+        found += usize::from(release::answers::check(base) != u32::from(by_model));
+    };
+    conflicts::sound_bases(200, |_, base| compare(base));
+    forms::bases(MISSHAPEN, |_, misshapen| compare(misshapen.bytes));
+    found
+}
 
 /// Whether the library's decision isn't the model's by a reading.
 fn decision_differs(reading: Reading, base: &[u8], list: List, asked: &Asked) -> bool {
@@ -41,21 +60,39 @@ fn report_differs(
 /// In how many cases the library's decision isn't the model's by a reading.
 fn decisions_that_differ(reading: Reading) -> usize {
     let mut found = 0;
-    decisions::sound_bases(500, |base, asked| {
+    let mut compare = |base: &[u8], asked: &Asked| {
         found += usize::from(decision_differs(reading, base, None, asked));
+    };
+    decisions::sound_bases(500, &mut compare);
+    forms::bases(MISSHAPEN, |random, misshapen| {
+        compare(misshapen.bytes, &question(random, &misshapen));
     });
     found
+}
+
+fn question(random: &mut Random, misshapen: &Misshapen) -> Asked {
+    random_question(random, misshapen.records, misshapen.base)
 }
 
 /// The same by lists: all legal ones, and two others.
 fn decisions_by_that_differ(reading: Reading) -> usize {
     let mut found = 0;
-    lists::rival_questions(250, |random, base, asked| {
+    lists::rival_questions(400, |random, base, asked| {
         let others = [illegal_list(random), illegal_list(random)];
         let others = others.iter().map(Vec::as_slice);
         for list in LEGAL.into_iter().chain(others) {
             found += usize::from(decision_differs(reading, base, Some(list), asked));
         }
+    });
+    forms::bases(MISSHAPEN, |random, misshapen| {
+        let asked = question(random, &misshapen);
+        let list = random.pick(&LEGAL);
+        found += usize::from(decision_differs(
+            reading,
+            misshapen.bytes,
+            Some(list),
+            &asked,
+        ));
     });
     found
 }
@@ -69,7 +106,21 @@ fn reports_that_differ(reading: Reading) -> usize {
         let (base, permissions) = (records.bytes(), records.permissions.len());
         found += usize::from(report_differs(reading, &base, at, None, permissions));
     });
+    forms::bases(MISSHAPEN, |random, misshapen| {
+        found += usize::from(misshapen_report_differs(reading, random, None, &misshapen));
+    });
     found
+}
+
+fn misshapen_report_differs(
+    reading: Reading,
+    random: &mut Random,
+    list: List,
+    misshapen: &Misshapen,
+) -> bool {
+    let at = context_in_range(random, misshapen.records);
+    let permissions = misshapen.records.permissions.len();
+    report_differs(reading, misshapen.bytes, at, list, permissions)
 }
 
 /// The same by lists: all legal ones, and two others.
@@ -85,6 +136,10 @@ fn reports_by_that_differ(reading: Reading) -> usize {
             found += usize::from(differs);
         }
     });
+    forms::bases(MISSHAPEN, |random, misshapen| {
+        let list = Some(random.pick(&LEGAL));
+        found += usize::from(misshapen_report_differs(reading, random, list, &misshapen));
+    });
     found
 }
 
@@ -92,12 +147,17 @@ fn reports_by_that_differ(reading: Reading) -> usize {
 /// reading.
 fn conflicts_that_differ(reading: Reading) -> usize {
     let mut found = 0;
-    conflicts::sound_bases(600, |random, base| {
+    let mut compare = |random: &mut Random, base: &[u8]| {
         let mut by_library = Lent::noisy(random, 8_400);
         let mut by_model = by_library.clone();
-        release::answers::conflicts(base, by_library.buffer());
-        model::conflicts_as(reading, base, by_model.buffer());
-        found += usize::from(by_library.first_difference(&by_model).is_some());
+        let library = release::answers::conflicts(base, by_library.buffer());
+        let model = model::conflicts_as(reading, base, by_model.buffer());
+        let differs = by_library.first_difference(&by_model).is_some();
+        found += usize::from(library.refusal != u32::from(model.refusal) || differs);
+    };
+    conflicts::sound_bases(600, &mut compare);
+    forms::bases(MISSHAPEN, |random, misshapen| {
+        compare(random, misshapen.bytes);
     });
     found
 }
@@ -122,15 +182,24 @@ fn sheets_that_differ(reading: Reading) -> [usize; 4] {
     sheets::any_sheets(300, |_, base, call, mut sheet| {
         compare(base, call, &mut sheet);
     });
+    forms::bases(MISSHAPEN, |random, misshapen| {
+        for call in forms::sheet_calls(random, &misshapen) {
+            compare(misshapen.bytes, call, &mut [0; 14]);
+        }
+    });
     found
 }
 
 /// In how many cases the library's bound isn't the model's by a reading.
 fn bounds_that_differ(reading: Reading) -> usize {
     let mut found = 0;
-    bounds::sound_bases(500, |base, changed| {
+    let mut compare = |base: &[u8], changed: &Changed| {
         let by_model = changed.by_model(reading, base);
         found += usize::from(changed.by_library(base) != by_model);
+    };
+    bounds::sound_bases(500, &mut compare);
+    forms::bases(MISSHAPEN, |random, misshapen| {
+        compare(misshapen.bytes, &random_change(random, misshapen.base));
     });
     found
 }
@@ -176,6 +245,20 @@ const OF_ACTING: &[&str] = &[
     "reports by lists",
 ];
 
+/// Those that check a base.
+const OF_BASES: &[&str] = &[
+    "checks",
+    "decisions",
+    "reports",
+    "conflicts",
+    "openings",
+    "signings",
+    "askings",
+    "bounds",
+    "decisions by lists",
+    "reports by lists",
+];
+
 /// The calls in which a reading shows.
 fn shows(reading: Reading) -> &'static [&'static str] {
     match reading {
@@ -187,6 +270,12 @@ fn shows(reading: Reading) -> &'static [&'static str] {
         Reading::HeldAlone | Reading::DirectJuniors | Reading::SeniorsToo => OF_ACTING,
         Reading::ListAfterPermission => &["decisions by lists"],
         Reading::ListIgnored => &["reports by lists"],
+        Reading::DaysBeforeMembership | Reading::DaysAfterWeight => {
+            &["decisions", "askings", "decisions by lists"]
+        }
+        Reading::DaysForgotten => &["reports", "reports by lists"],
+        Reading::DaysAtSigning => &["signings"],
+        Reading::DaysTurned | Reading::OldLetters => OF_BASES,
         _ if Reading::WRONG_IN_LISTS.contains(&reading) => &["conflicts"],
         _ if Reading::WRONG_ON_SHEETS.contains(&reading) => &["signings"],
         _ if Reading::WRONG_OF_WITHDRAWAL.contains(&reading) => &["withdrawals"],
@@ -202,6 +291,7 @@ fn shows(reading: Reading) -> &'static [&'static str] {
 fn expect(reading: Reading) {
     let [openings, signings, withdrawals, askings] = sheets_that_differ(reading);
     let found = [
+        ("checks", checks_that_differ(reading)),
         ("decisions", decisions_that_differ(reading)),
         ("reports", reports_that_differ(reading)),
         ("conflicts", conflicts_that_differ(reading)),
@@ -235,4 +325,5 @@ fn every_wrong_reading_is_noticed() {
     Reading::WRONG_OF_RESOLUTION.into_iter().for_each(expect);
     Reading::WRONG_OF_WITHDRAWAL.into_iter().for_each(expect);
     Reading::WRONG_OF_PARAMETERS.into_iter().for_each(expect);
+    Reading::WRONG_OF_DATES.into_iter().for_each(expect);
 }

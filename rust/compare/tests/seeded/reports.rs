@@ -5,6 +5,7 @@ use compare::acting::{gains, most_records_down};
 use compare::builder::BaseBuilder;
 use compare::capped::capped_base;
 use compare::damage::*;
+use compare::days::{end_days, losses, turn_days};
 use compare::lent::Lent;
 use compare::lively::{full_base, heavy_base, lively_base};
 use compare::questions::{any_context, at_minute, context_in_range};
@@ -37,6 +38,9 @@ fn compare_sound(seen: &mut Seen, random: &mut Random, records: &BaseBuilder) {
     let enough = whole + random.pick(&[0, 0, 1, few, 300]);
     let at = context_in_range(random, records);
     compare_at(seen, random, &base, at, enough);
+    if random.chance(3) {
+        compare_without_one(seen, random, records, at);
+    }
     let less = random.below(whole.max(1));
     let short = random.pick(&[0, less, whole.saturating_sub(1)]);
     if random.chance(3) {
@@ -45,6 +49,19 @@ fn compare_sound(seen: &mut Seen, random: &mut Random, records: &BaseBuilder) {
         compare_at(seen, random, &base, at, length);
     } else {
         compare_at(seen, random, &base, at, short);
+    }
+}
+
+/// Compares the report once more where a user of a group shown is out of date.
+fn compare_without_one(seen: &mut Seen, random: &mut Random, records: &BaseBuilder, at: Context) {
+    let mut shown = vec![0; RECORD * records.permissions.len()];
+    twin::report(&records.bytes(), at, &mut shown);
+    if let Some(record) = shown.chunks_exact(RECORD).find(|record| record[0] > 0) {
+        let place = 1 + 2 * random.below(record[0].into());
+        let mut records = records.clone();
+        let user = &mut records.users[usize::from(record[place])];
+        end_days(random, user, at.date as u16);
+        compare_at(seen, random, &records.bytes(), at, shown.len());
     }
 }
 
@@ -66,6 +83,7 @@ fn compare_at(seen: &mut Seen, random: &mut Random, base: &[u8], at: Context, le
         let numbers = numbers(records);
         seen.numbers(&numbers);
         seen.gains(&gains(base, at, &numbers));
+        seen.dated.losses(&losses(base, at, None, &numbers));
         note_shown(seen, base, records);
     }
 }
@@ -115,7 +133,8 @@ pub fn sound_bases(bases: usize, mut attempt: impl FnMut(&mut Random, &BaseBuild
     }
 }
 
-/// Changed bytes, a table at its limit or above, a clause without conditions.
+/// Changed bytes, a table at its limit or above, a clause without conditions,
+/// days turned.
 fn damaged_bases(seen: &mut Seen) {
     let mut random = Random::new(62);
     for _ in 0..2_000 {
@@ -125,7 +144,7 @@ fn damaged_bases(seen: &mut Seen) {
             let damaged = any_damage(&mut random, &image);
             compare_damaged(seen, &mut random, &damaged, &records);
         }
-        for spoil in [crowd, empty_clause] {
+        for spoil in [crowd, empty_clause, turn_days] {
             let mut spoilt = records.clone();
             spoil(&mut random, &mut spoilt);
             compare_damaged(seen, &mut random, &spoilt.bytes(), &records);

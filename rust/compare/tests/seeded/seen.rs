@@ -1,6 +1,7 @@
 //! How often each answer, number of approvers, kind of conflict, number of
 //! signatures and bound was seen, how far below their roles users acted, what
-//! resolution lists decided, who withdrew, and how many codes were tried.
+//! resolution lists decided, who withdrew, how many codes were tried, and what
+//! users' days brought about.
 
 use std::io::Write;
 use std::time::Duration;
@@ -8,6 +9,7 @@ use std::time::Duration;
 use compare::acting::Gain;
 use compare::tally::Tally;
 
+use crate::dated::Dated;
 use crate::listed::Listed;
 use crate::tried::Tried;
 use crate::withdrawn::Withdrawn;
@@ -32,7 +34,7 @@ pub enum Call {
 const CALLS: usize = 12;
 
 /// One past the last refusal's number.
-const REFUSALS: usize = 24;
+const REFUSALS: usize = 25;
 
 const NAMES: [&str; CALLS] = [
     "check",
@@ -52,23 +54,27 @@ const NAMES: [&str; CALLS] = [
 /// The answers that each call can give.
 const ANSWERS: [&[u8]; CALLS] = [
     &[0, 1, 2, 3, 4, 5, 6, 7, 8, 9],
-    &[0, 1, 2, 3, 4, 5, 6, 7, 8, 9, 10, 11, 12, 13, 14, 15, 16, 17],
+    &[
+        0, 1, 2, 3, 4, 5, 6, 7, 8, 9, 10, 11, 12, 13, 14, 15, 24, 16, 17,
+    ],
     &[0, 1, 2, 3, 4, 5, 6, 7, 8, 9, 11, 19],
     &[0, 1, 2, 3, 4, 5, 6, 7, 8, 9, 18],
     &[0, 1, 2, 3, 4, 5, 6, 7, 8, 9, 10],
     &[0, 1, 2, 3, 4, 5, 6, 7, 8, 9, 13, 14, 15, 20],
     &[0, 23],
-    &[0, 1, 2, 3, 4, 5, 6, 7, 8, 9, 10, 11, 12, 13, 14, 15, 16, 17],
+    &[
+        0, 1, 2, 3, 4, 5, 6, 7, 8, 9, 10, 11, 12, 13, 14, 15, 24, 16, 17,
+    ],
     &[0, 1, 2, 3, 4, 5, 6, 7, 8, 9, 12, 13, 14, 15, 21],
     &[
-        0, 1, 2, 3, 4, 5, 6, 7, 8, 9, 22, 10, 11, 12, 13, 14, 15, 16, 17,
+        0, 1, 2, 3, 4, 5, 6, 7, 8, 9, 22, 10, 11, 12, 13, 14, 15, 24, 16, 17,
     ],
     &[0, 1, 2, 3, 4, 5, 6, 7, 8, 9, 22, 11, 19],
     &[0, 5],
 ];
 
 /// Those that a sheet can get that calls made: no user stands on it twice.
-const ANSWERS_TO_MADE: &[u8] = &[0, 1, 2, 3, 4, 5, 6, 7, 8, 9, 10, 11, 12, 13, 15, 16, 17];
+const ANSWERS_TO_MADE: &[u8] = &[0, 1, 2, 3, 4, 5, 6, 7, 8, 9, 10, 11, 12, 13, 15, 24, 16, 17];
 
 const NUMBERS: &[u8] = &[0, 1, 2, 3, 4, 5, 6];
 const KINDS: &[u8] = &[1, 2, 3];
@@ -97,7 +103,7 @@ pub struct Seen {
     numbers: Tally<7>,
     kinds: Tally<4>,
     most_conflicts: u32,
-    answers_to_made: Tally<18>,
+    answers_to_made: Tally<REFUSALS>,
     signatures: Tally<7>,
     granted: Tally<8>,
     signed: Tally<8>,
@@ -110,6 +116,7 @@ pub struct Seen {
     pub lists: Listed,
     pub withdrawn: Withdrawn,
     pub tried: Tried,
+    pub dated: Dated,
 }
 
 impl Seen {
@@ -234,6 +241,7 @@ impl Seen {
             .chain(self.lists.lines())
             .chain(self.withdrawn.lines())
             .chain(self.tried.lines())
+            .chain(self.dated.lines())
             .chain([last])
             .collect();
         let text = format!("\n{}\n", lines.join("\n"));
@@ -265,6 +273,7 @@ impl Seen {
         self.lists.expect_all();
         self.withdrawn.expect_all();
         self.tried.expect_all();
+        self.dated.expect_all();
     }
 }
 

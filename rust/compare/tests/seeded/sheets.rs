@@ -148,6 +148,9 @@ impl<'a> Course<'a> {
         let base = handed.base.expect("a refused base takes no signature");
         let records = records_down(base, last.bytes());
         seen.signed(records.expect("whoever signs may act"));
+        let user_signed = &base.users[usize::from(last.user)];
+        let all_days = [0, 65_535].iter().all(|day| user_signed.comes_on(*day));
+        seen.dated.signed_with_days(!all_days);
         if self.withdrawn.contains(&user) {
             seen.withdrawn.signed_again();
         }
@@ -176,6 +179,7 @@ impl<'a> Course<'a> {
         let decided = release::answers::decide(bytes, permission, library_context(at), &group);
         assert_eq!(u32::from(answer), decided, "{group:?}");
         seen.made(answer, standing.len());
+        seen.dated.asked(bytes, at.date, &group, answer);
         if answer == 0 {
             let base = handed.base.expect("a refused base grants nothing");
             let records = most_records_down(base, &group);

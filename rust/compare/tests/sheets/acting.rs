@@ -12,8 +12,8 @@ fn chain() -> BaseBuilder {
         senior,
         junior: senior + 1,
     };
-    let mut users = CODES.map(|parameter| User { parameter }).to_vec();
-    users.push(User { parameter: 1 });
+    let mut users = CODES.map(User::always).to_vec();
+    users.push(User::always(1));
     BaseBuilder {
         hierarchy: (0..7).map(edge).collect(),
         users,

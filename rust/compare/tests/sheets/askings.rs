@@ -2,7 +2,7 @@
 
 use crate::setups::*;
 use compare::builder::ContextClause;
-use compare::questions::at_minute;
+use compare::questions::{at_minute, SOME_DATE};
 use compare::shop::small_shop;
 use model::Context;
 
@@ -37,8 +37,19 @@ fn a_sheet_for_255_gets_10() {
 #[test]
 fn a_sheet_for_255_gets_10_in_a_context_out_of_range() {
     let base = open_base().bytes();
-    for (minute, day, zone) in [(1440, 0, 0), (0, 7, 0), (0, 0, 256), (u32::MAX, 0, 0)] {
-        let at = Context { minute, day, zone };
+    for (minute, day, zone, date) in [
+        (1440, 0, 0, 0),
+        (0, 7, 0, 0),
+        (0, 0, 256, 0),
+        (0, 0, 0, 65_536),
+        (u32::MAX, 0, 0, 0),
+    ] {
+        let at = Context {
+            minute,
+            day,
+            zone,
+            date,
+        };
         expect_ask_at(&base, at, sheet(255, &[]), 10);
         expect_ask_at(&base, at, sheet(255, &[[0, 0]]), 10);
         expect_ask_at(&base, at, sheet(0, &[]), 11);
@@ -105,7 +116,12 @@ fn minute_day_and_zone_come_in_order() {
     base.policies[0].context = 0;
     let signed = sheet(0, &[[0, 0]]);
     for (minute, day, zone, answer) in [(5, 6, 7, 0), (6, 5, 7, 16), (5, 7, 6, 11), (7, 6, 5, 16)] {
-        let at = Context { minute, day, zone };
+        let at = Context {
+            minute,
+            day,
+            zone,
+            date: SOME_DATE,
+        };
         expect_ask_at(&base.bytes(), at, signed, answer);
     }
 }

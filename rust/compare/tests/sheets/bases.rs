@@ -31,7 +31,7 @@ fn asked_against_a_base_of_fewer_roles() {
     let mut day = Day::new();
     let mut fewer = open_base();
     fewer.roles = 2;
-    fewer.users = vec![User { parameter: 15 }; 8];
+    fewer.users = vec![User::always(15); 8];
     fewer.policies.retain(|policy| policy.role < 2);
     day.open(&open_base(), 0, 0);
     day.sign(&open_base(), 0, 2, 0);

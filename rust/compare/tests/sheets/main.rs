@@ -5,6 +5,7 @@ mod acting;
 mod askings;
 mod bases;
 mod claims;
+mod dates;
 mod openings;
 mod order;
 mod setups;

@@ -2,7 +2,7 @@
 
 use compare::builder::*;
 use compare::lent::Lent;
-use compare::questions::at_minute;
+use compare::questions::{at_date, at_minute, SOME_DATE};
 use compare::random::Random;
 use compare::sheets::{agreed_call, expect_call, SheetCall};
 pub use compare::shop::refused_bases;
@@ -18,7 +18,7 @@ pub fn open_base() -> BaseBuilder {
     let clause = |permission| GroupClause::new(permission, &[(0, 2, 1)]);
     let parameter = ALL_ROLES;
     BaseBuilder {
-        users: vec![User { parameter }; 8],
+        users: vec![User::always(parameter); 8],
         group_clauses: vec![clause(0), clause(1)],
         policies: (0..6).map(policy).collect(),
         ..BaseBuilder::new(3).with_permissions(2)
@@ -129,7 +129,11 @@ impl Day {
     }
 
     pub fn ask(&mut self, base: &BaseBuilder, answer: u8) {
-        let at = at_minute(600);
+        self.ask_on(SOME_DATE, base, answer);
+    }
+
+    pub fn ask_on(&mut self, date: u32, base: &BaseBuilder, answer: u8) {
+        let at = at_date(600, date);
         self.expect(&base.bytes(), SheetCall::Ask { at }, answer);
     }
 

@@ -166,7 +166,7 @@ fn a_user_without_roles_never_signs() {
 #[test]
 fn a_code_is_held_in_its_own_role_alone() {
     let mut base = BaseBuilder::new(8);
-    base.users = CODES.map(|parameter| User { parameter }).to_vec();
+    base.users = CODES.map(User::always).to_vec();
     for user in 0..8 {
         for role in 0..8 {
             let (u, r) = (user.into(), role.into());
