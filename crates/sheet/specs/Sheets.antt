@@ -48,7 +48,7 @@ unfolding any_below
 stands_in held u = any_below (entry_count held) (λ i. eqb (entry_user held i) u)
 
 -- the first of refusals 1 to 9, 13, 14, 15 and 20 that applies to a signing by user u in role r, or 0; 13 to 15 for the
--- new entry alone, 20 where six entries are held already
+-- new entry alone, 20 where six entries are held already. No date is known, so no 24: the user's days play no part
 unfoldable pub sign_refusal : List ℕ → List ℕ → ℕ → ℕ → ℕ
 unfolding stands_in
 sign_refusal b held u r =
@@ -112,6 +112,6 @@ withdrawn s u =
       sheet = cond (eqb refusal 0) (holding s.permission (entries_without u (held_on s))) s;
     }
 
--- asking: the decision for the sheet's permission and the entries that it holds
+-- asking: the decision for the sheet's permission and the entries that it holds, with 24 by the context's date
 abbrev pub asked : List ℕ → Sheet → Context → ℕ
 asked b s at = decision_of b at s.permission (held_on s)

@@ -77,7 +77,8 @@ pub fn withdraw(sheet: Sheet, user: u32) -> Result<Sheet, Refusal>
     Ok(sheet.without(user))
 }
 
-// Entry point: the decision for the sheet's permission and the entries that it holds.
+// Entry point: the decision for the sheet's permission and the entries that it holds. It alone asks for the users'
+// days, refusal 24; the other calls on a sheet know no date.
 pub fn ask(base: &[u8], s: Sheet, at: Context) -> Result<(), Refusal>
     ensures { number_of result ≡ asked base.now s at }
 {

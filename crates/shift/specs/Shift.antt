@@ -69,7 +69,8 @@ bound_of b i w g = distance (weight_in b i) w * touched b i g
 unfoldable pub change_refused : ℕ → ℕ → ℕ → Bool
 change_refused n i w = not (ltb i n) || outside 1 5 w
 
--- the refusals of the call: 1 to 9 of the base, 12 to 15 as the decision gives them, then 21
+-- the refusals of the call: 1 to 9 of the base, 12 to 15 as the decision gives them, then 21. No date
+-- is known, so no 24
 unfoldable pub bound_refusal : List ℕ → ℕ → ℕ → List ℕ → ℕ
 bound_refusal b i w g =
     cond (not (eqb (refusal_of b) 0)) (refusal_of b)

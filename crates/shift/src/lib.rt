@@ -15,7 +15,7 @@ use weights::acting::Acting;
 use weights::seniority;
 
 // Entry point: by how much, at most, the group's sum of weights shifts where the policy gets this weight; refusals 1 to
-// 9, 12 to 15, then 21. A refusal carries 0.
+// 9, 12 to 15, then 21. A refusal carries 0. The call knows no date, and so no 24.
 pub fn bound(base: &[u8], policy: u32, weight: u32, group: &[u8]) -> Result<u32, Refused>
     ensures { answer_from result ≡ bound_answer base.now policy weight group.now }
 {
