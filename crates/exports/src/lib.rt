@@ -28,7 +28,7 @@ pub extern "C" fn release_check(base: &[u8]) -> u32
     number(reader::check(base))
 }
 
-// The decision on a group: 0 where it is granted, else the first of refusals 1 to 17 that applies.
+// The decision on a group: 0 where it is granted, else the first of refusals 1 to 15, 24, 16 and 17 that applies.
 #[unsafe(no_mangle)]
 pub extern "C" fn release_decide(
     base: &[u8],
@@ -36,11 +36,17 @@ pub extern "C" fn release_decide(
     minute: u32,
     day: u32,
     zone: u32,
+    date: u32,
     group: &[u8],
 ) -> u32
-    ensures { result ≡ decision_of base.now (at minute day zone) permission group.now }
+    ensures { result ≡ decision_of base.now (at minute day zone date) permission group.now }
 {
-    let at = Context { minute, day, zone };
+    let at = Context {
+        minute,
+        day,
+        zone,
+        date,
+    };
     number(decision::decide(base, permission, at, group))
 }
 
@@ -53,18 +59,24 @@ pub extern "C" fn release_report(
     minute: u32,
     day: u32,
     zone: u32,
+    date: u32,
     out: &mut [u8],
 ) -> u64
-    ensures answer { result ≡ packed (answer_of base.now (at minute day zone) (length out.old)) }
-    ensures promise { ReportedOf base.now (at minute day zone) out.old out.new (unpacked result) }
-    ensures demand { Demanded base.now (at minute day zone) out.old out.new (unpacked result) }
+    ensures answer { result ≡ packed (answer_of base.now (at minute day zone date) (length out.old)) }
+    ensures promise { ReportedOf base.now (at minute day zone date) out.old out.new (unpacked result) }
+    ensures demand { Demanded base.now (at minute day zone date) out.old out.new (unpacked result) }
 {
-    let at = Context { minute, day, zone };
+    let at = Context {
+        minute,
+        day,
+        zone,
+        date,
+    };
     pack(report::report(base, at, out))
 }
 
-// The decision by a resolution list: 0 where the group is granted, else the first of refusals 1 to 9, 22 and 10 to 17
-// that applies.
+// The decision by a resolution list: 0 where the group is granted, else the first of refusals 1 to 9, 22, 10 to 15, 24,
+// 16 and 17 that applies.
 #[unsafe(no_mangle)]
 pub extern "C" fn release_decide_by(
     base: &[u8],
@@ -72,12 +84,18 @@ pub extern "C" fn release_decide_by(
     minute: u32,
     day: u32,
     zone: u32,
+    date: u32,
     list: &[u8],
     group: &[u8],
 ) -> u32
-    ensures { result ≡ decision_lent list.now base.now (at minute day zone) permission group.now }
+    ensures { result ≡ decision_lent list.now base.now (at minute day zone date) permission group.now }
 {
-    let at = Context { minute, day, zone };
+    let at = Context {
+        minute,
+        day,
+        zone,
+        date,
+    };
     number(decision::decide_by(base, permission, at, list, group))
 }
 
@@ -89,14 +107,20 @@ pub extern "C" fn release_report_by(
     minute: u32,
     day: u32,
     zone: u32,
+    date: u32,
     list: &[u8],
     out: &mut [u8],
 ) -> u64
-    ensures answer { result ≡ packed (answer_lent list.now base.now (at minute day zone) (length out.old)) }
-    ensures promise { ReportedLent list.now base.now (at minute day zone) out.old out.new (unpacked result) }
-    ensures demand { DemandedLent list.now base.now (at minute day zone) out.old out.new (unpacked result) }
+    ensures answer { result ≡ packed (answer_lent list.now base.now (at minute day zone date) (length out.old)) }
+    ensures promise { ReportedLent list.now base.now (at minute day zone date) out.old out.new (unpacked result) }
+    ensures demand { DemandedLent list.now base.now (at minute day zone date) out.old out.new (unpacked result) }
 {
-    let at = Context { minute, day, zone };
+    let at = Context {
+        minute,
+        day,
+        zone,
+        date,
+    };
     pack(report::report_by(base, at, list, out))
 }
 
@@ -160,11 +184,17 @@ pub extern "C" fn release_sheet_ask(
     minute: u32,
     day: u32,
     zone: u32,
+    date: u32,
     sheet: &[u8; 14],
 ) -> u32
-    ensures { result ≡ asked base.now (sheet_of sheet.now) (at minute day zone) }
+    ensures { result ≡ asked base.now (sheet_of sheet.now) (at minute day zone date) }
 {
-    let at = Context { minute, day, zone };
+    let at = Context {
+        minute,
+        day,
+        zone,
+        date,
+    };
     number(sheet::ask(base, Sheet::from(sheet), at))
 }
 
