@@ -23,16 +23,17 @@ fn acting_sets(base: &Base<'_>, fixed: Fixed) -> [u8; 24]
     std::array::from_fn(|u| acting.roles(u))
 }
 
-// The same without the users whose days don't include the date: those act in no role.
-fn sets_in_date(base: &Base<'_>, at: Context, acting: [u8; 24]) -> [u8; 24]
-    requires { ActingSets base.now acting }
-    ensures { SetsInDate base.now at result }
+// Leaves the users whose days don't include the date without a role.
+fn keep_in_date(base: &Base<'_>, at: Context, sets: &mut [u8; 24])
+    requires { ActingSets base.now sets.old }
+    ensures { SetsInDate base.now at sets.new }
 {
     let users = base.part(Table::Users);
-    std::array::from_fn(|u| {
-        let out = u < users.len() / 8 && Days::of(users, u).leave_out(at.date);
-        if out { 0 } else { acting[u] }
-    })
+    for (u, set) in sets[..users.len() / 8].iter_mut().enumerate() {
+        if Days::of(users, u).leave_out(at.date) {
+            *set = 0;
+        }
+    }
 }
 
 // What a report goes by for every permission: the setting, the weights that count, and the sets' numbers of roles. Base
@@ -136,7 +137,8 @@ pub fn fill(base: &Base<'_>, fixed: Fixed, out: &mut [u8]) -> u32
     ensures { FilledBy (decided base.now fixed) (permission_count base.now) out.old out.new result }
 {
     let s = grounds_of(base, fixed);
-    let sets = sets_in_date(base, fixed.at, acting_sets(base, fixed));
+    let mut sets = acting_sets(base, fixed);
+    keep_in_date(base, fixed.at, &mut sets);
     let nexts = ends::next_ends(&sets, base.user_count());
     match base.role_count() {
         0..=3 => fill_in::<280, 84>(base, &s, nexts, out),

@@ -53,7 +53,7 @@ pub next_ends-nexts-requires : goal.next_ends-nexts-requires
 next_ends-nexts-requires c =
     let p = c.requires in
     let n = c.user_count.ensures in
-    let acting = c.sets_in_date-sets.ensures in
+    let acting = c.keep_in_date.ensures in
     (few_users acting p.0.accepted n, idle_past acting p.0.accepted n)
 
 pub fill_in-requires : goal.fill_in-requires
@@ -61,7 +61,7 @@ fill_in-requires c =
     let p = c.requires in
     let few : role_count c.args.base.now ≤ 3 = omega (arith, c.role_count.ensures.0) in
     let (rows, places) = room_for_3 few in
-    let users = users_of c.grounds_of-s.ensures.0 c.sets_in_date-sets.ensures c.next_ends-nexts.ensures in
+    let users = users_of c.grounds_of-s.ensures.0 c.keep_in_date.ensures c.next_ends-nexts.ensures in
     (c.grounds_of-s.ensures.1, users, rows, places, omega arith, omega arith, p.1)
 
 pub fill_in-requires-in-4 : goal.fill_in-requires-in-4
@@ -69,7 +69,7 @@ fill_in-requires-in-4 c =
     let p = c.requires in
     let few : role_count c.args.base.now ≤ 5 = omega (arith, c.role_count.ensures.0) in
     let (rows, places) = room_for_5 few in
-    let users = users_of c.grounds_of-s.ensures.0 c.sets_in_date-sets.ensures c.next_ends-nexts.ensures in
+    let users = users_of c.grounds_of-s.ensures.0 c.keep_in_date.ensures c.next_ends-nexts.ensures in
     (c.grounds_of-s.ensures.1, users, rows, places, omega arith, omega arith, p.1)
 
 pub fill_in-requires-in_default : goal.fill_in-requires-in_default
@@ -77,5 +77,5 @@ fill_in-requires-in_default c =
     let p = c.requires in
     let few : role_count c.args.base.now ≤ 8 = omega (arith, c.role_count.ensures) in
     let (rows, places) = room_for_8 few in
-    let users = users_of c.grounds_of-s.ensures.0 c.sets_in_date-sets.ensures c.next_ends-nexts.ensures in
+    let users = users_of c.grounds_of-s.ensures.0 c.keep_in_date.ensures c.next_ends-nexts.ensures in
     (c.grounds_of-s.ensures.1, users, rows, places, omega arith, omega arith, p.1)
