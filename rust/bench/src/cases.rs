@@ -185,12 +185,6 @@ pub fn cases() -> Vec<Case> {
         case("decide typical shop", Call::Decide, &typical, &[0, 0, 6, 3]),
         case("decide full base", Call::Decide, &full, &six),
         case("decide from above", Call::Decide, &above, &six_below),
-        case(
-            "decide out of date",
-            Call::Decide,
-            &out_of_date(full_base(), six.len() / 2).bytes(),
-            &six,
-        ),
         case("open small shop", Call::Open, &small, &[]),
         case("open typical shop", Call::Open, &typical, &[]),
         case("sign small shop", Call::Sign(2, 2), &small, &[0, 0]),
@@ -220,11 +214,8 @@ pub fn cases() -> Vec<Case> {
         report("report typical shop", &typical),
         report("report full base", &full),
         report("report from above", &above),
-        report(
-            "report half out of date",
-            &out_of_date(worst::by_numbers(), 2).bytes(),
-        ),
     ];
+    cases.extend(of_dates());
     cases.extend(of_users());
     cases.extend(by_list());
     let plans = twin::worst::all().map(|(name, plan)| (name, plan.bytes()));
@@ -242,6 +233,18 @@ pub fn cases() -> Vec<Case> {
         case(&name, Call::Conflicts, &base, &[])
     }));
     cases
+}
+
+/// A group of six whose last user alone is out of date, on the full base, and a
+/// report where every other user is.
+fn of_dates() -> [Case; 2] {
+    let six: Vec<u8> = (0..6).flat_map(|i| [i, i]).collect();
+    let last_out = out_of_date(full_base(), 6).bytes();
+    let half_out = out_of_date(worst::by_numbers(), 2).bytes();
+    [
+        case("decide out of date", Call::Decide, &last_out, &six),
+        report("report half out of date", &half_out),
+    ]
 }
 
 /// Checks of bases that have users alone, and of single parameters.

@@ -33,7 +33,8 @@ pub struct Context {
 
 impl Context {
     /// A context by its minute of the day, its day of the week, its zone and its
-    /// date, in this order.
+    /// date, in this order. The fields written out say the same, and name each
+    /// number.
     ///
     /// ```
     /// use release::Context;

@@ -38,7 +38,8 @@ fn the_only_user_has_one_day() {
         base.users[0].set_days(day, day);
         let date = u32::from(day);
         expect_only_group_on(date, &base, &[[0, 0]]);
-        for other in [date.saturating_sub(1), date + 1, 2, 20_000] {
+        let [before, far_before] = [1, 256].map(|days| date.saturating_sub(days));
+        for other in [before, far_before, date + 1, date + 256, 2, 20_000] {
             if other != date && other <= 65_535 {
                 expect_numbers_on(other, &base, &[0]);
             }
