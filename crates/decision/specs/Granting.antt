@@ -7,8 +7,8 @@ use Rattle.decision.specs.Conditions.{permission_holds}
 use Rattle.decision.specs.Groups.{entry_count, entry_user, entry_role, sum_of, roles_of}
 use Rattle.decision.specs.Decision.{eligible, out_of_date}
 
--- 1 to 6 whole entries of different users, users and roles that are there, each user eligible in the role and not out of
--- date, each role's weight above 0, and the condition holds of number, sum and set
+-- 1 to 6 whole entries of different users, users and roles that are there, each user eligible in the role and not out
+-- of date, each role's weight above 0, and the condition holds of number, sum and set
 pub record Granted (U R : ℕ) (may : ℕ → ℕ → Bool) (out : ℕ → Bool) (weigh : ℕ → ℕ) (condition : ℕ → ℕ → ℕ → Bool)
     (g : List ℕ) : Type 0 where
   pub whole : length g ≡ 2 * entry_count g

@@ -1,5 +1,5 @@
-// The decision: whether a group is granted a permission, by the first refusal of 1 to 15, 24, 16 and 17, and of 22 where
-// a list is lent, that applies.
+// The decision: whether a group is granted a permission, by the first refusal of 1 to 15, 24, 16 and 17, and of 22
+// where a list is lent, that applies.
 #![tactic(auto)]
 
 ghost use Rattle.std.specs.Prelude.{◌≡◌, ◌<◌};
@@ -60,8 +60,8 @@ fn asking_refusal(base: &Base<'_>, permission: u32, at: Context) -> Result<(), R
     Ok(())
 }
 
-// Inner: refusals 12 to 15, 24, 16 and 17 for an accepted base, a permission that is there and a setting of that base, by
-// its rules.
+// Inner: refusals 12 to 15, 24, 16 and 17 for an accepted base, a permission that is there and a setting of that base,
+// by its rules.
 pub fn decide_checked(
     base: &Base<'_>,
     permission: u8,

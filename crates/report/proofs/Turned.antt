@@ -50,7 +50,8 @@ module _ {U R : ℕ} {may : ℕ → ℕ → Bool} {out : ℕ → Bool} {weigh : 
     (condition : ℕ → ℕ → ℕ → Bool) (tables : Tables U R may out weigh sets w) where
   -- a rising list of entries that meets the condition is a granted group
   pub rises_granted : (g : List Entry) → 1 ≤ length g → length g ≤ 6 → Rises sets w 0 g
-      → condition (length g) (entries_sum w g) (entries_roles g) ≡ true → Granted U R may out weigh condition (bytes_of g)
+      → condition (length g) (entries_sum w g) (entries_roles g) ≡ true
+      → Granted U R may out weigh condition (bytes_of g)
   rises_granted g some few r h =
       let (end, f) = rises_falls sets w 0 g [] r tt in
       let n : length (turned g []) ≡ length g = turned_length g [] ∙ add-zero (length g) in

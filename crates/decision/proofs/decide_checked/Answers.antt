@@ -34,7 +34,8 @@ module _ (rules b : List ℕ) (at : Context) (p : ℕ) (g : List ℕ) where
     unfolding group_decision group_refusal
     by_24 days = sym (unrefused none ∙ rw (out_is days))
 
-    left : false ≡ some_out_of_date (out_of_days us at.date) g → weighed_of rules b at p g ≡ group_decision rules b at p g
+    left : false ≡ some_out_of_date (out_of_days us at.date) g →
+        weighed_of rules b at p g ≡ group_decision rules b at p g
     unfolding group_decision group_refusal
     left days = sym (unrefused none ∙ rw (out_is days))
 

@@ -28,7 +28,8 @@ module _ {b sets : List ℕ} {at : Context} (acting : SetsInDate b at sets) (ok 
       (λ t. get_or-eq_default sets 0 (omega (arith, ltb-false u 24 t, acting.size)))
       (met_or_not (ltb u 24))
 
-users_of : {b sets nexts : List ℕ} {s f : Fixed} → s ≡ f → SetsInDate b f.at sets → NextEnds sets nexts → UsersOf b s.at nexts
+users_of : {b sets nexts : List ℕ} {s f : Fixed} → s ≡ f → SetsInDate b f.at sets → NextEnds sets nexts →
+    UsersOf b s.at nexts
 users_of {sets = sets} same acting ends = record { sets = sets; acting = rw same acting; ends = ends }
 
 -- there is room for d roles where there is for n

@@ -1,4 +1,5 @@
--- A user that is there is left without a role where the days don't include the date; one that isn't has none either way.
+-- A user that is there is left without a role where the days don't include the date; one that isn't has none either
+-- way.
 use Rattle.std.proofs.Common.{ℕ, ◌/◌, ◌≤◌, ◌<◌, cond, ltb, List, ◌++◌, ◌≡◌, refl, sym, ap, ◌∙◌}
 use Rattle.std.proofs.Common.{length, get_or, take, drop, arith}
 use mathlib.Core.Logic.{⊎_elim}
@@ -57,5 +58,5 @@ returns c =
     let few = few_users _ c.part-users.ensures.accepted c.part-users.ensures.table in
     let taken = length-take (length c.part-users.result.now / 8) c.args.sets.now in
     let whole : c.loop-u.u ≡ length c.part-users.result.now / 8 = omega arith in
-    kept_in_date _ c.args.at c.args.sets.now c.loop-u.set-items refl c.part-users.ensures.table c.requires few (omega arith)
-    (λ u l. c.loop-u.invariant.done u (omega arith))
+    kept_in_date _ c.args.at c.args.sets.now c.loop-u.set-items refl c.part-users.ensures.table c.requires few
+    (omega arith) (λ u l. c.loop-u.invariant.done u (omega arith))
