@@ -20,6 +20,18 @@ use reader::{Answer, Refusal, Refused};
 use sheet::Sheet;
 use weights::Context;
 
+// The context of four numbers.
+fn context(minute: u32, day: u32, zone: u32, date: u32) -> Context
+    ensures { result ≡ at minute day zone date }
+{
+    Context {
+        minute,
+        day,
+        zone,
+        date,
+    }
+}
+
 // The base check: 0 or the first of refusals 1 to 9 that applies.
 #[unsafe(no_mangle)]
 pub extern "C" fn release_check(base: &[u8]) -> u32
@@ -41,12 +53,7 @@ pub extern "C" fn release_decide(
 ) -> u32
     ensures { result ≡ decision_of base.now (at minute day zone date) permission group.now }
 {
-    let at = Context {
-        minute,
-        day,
-        zone,
-        date,
-    };
+    let at = context(minute, day, zone, date);
     number(decision::decide(base, permission, at, group))
 }
 
@@ -66,12 +73,7 @@ pub extern "C" fn release_report(
     ensures promise { ReportedOf base.now (at minute day zone date) out.old out.new (unpacked result) }
     ensures demand { Demanded base.now (at minute day zone date) out.old out.new (unpacked result) }
 {
-    let at = Context {
-        minute,
-        day,
-        zone,
-        date,
-    };
+    let at = context(minute, day, zone, date);
     pack(report::report(base, at, out))
 }
 
@@ -90,12 +92,7 @@ pub extern "C" fn release_decide_by(
 ) -> u32
     ensures { result ≡ decision_lent list.now base.now (at minute day zone date) permission group.now }
 {
-    let at = Context {
-        minute,
-        day,
-        zone,
-        date,
-    };
+    let at = context(minute, day, zone, date);
     number(decision::decide_by(base, permission, at, list, group))
 }
 
@@ -115,12 +112,7 @@ pub extern "C" fn release_report_by(
     ensures promise { ReportedLent list.now base.now (at minute day zone date) out.old out.new (unpacked result) }
     ensures demand { DemandedLent list.now base.now (at minute day zone date) out.old out.new (unpacked result) }
 {
-    let at = Context {
-        minute,
-        day,
-        zone,
-        date,
-    };
+    let at = context(minute, day, zone, date);
     pack(report::report_by(base, at, list, out))
 }
 
@@ -189,12 +181,7 @@ pub extern "C" fn release_sheet_ask(
 ) -> u32
     ensures { result ≡ asked base.now (sheet_of sheet.now) (at minute day zone date) }
 {
-    let at = Context {
-        minute,
-        day,
-        zone,
-        date,
-    };
+    let at = context(minute, day, zone, date);
     number(sheet::ask(base, Sheet::from(sheet), at))
 }
 
