@@ -1,4 +1,5 @@
--- The sets of roles of the users whose days include a date: who is in them, and who is in none.
+-- The sets of roles of the users whose days include a date: who is in them, who is in none, and how many users there
+-- are.
 use Prim.Native.Nat.{ℕ, ◌^◌, ◌≤◌}
 use mathlib.Core.Bool.{Bool, true, false, not, ◌&&◌, cond, and-false, and-true}
 use mathlib.Core.Path.{◌≡◌, refl, sym, ◌∙◌}
@@ -9,6 +10,9 @@ use Rattle.folds.proofs.Bools.{never_met}
 use Rattle.folds.proofs.Numbers.{sum_zero}
 use Rattle.folds.proofs.Sets.{in_none}
 use Rattle.reader.specs.Tables.{user_count}
+use Rattle.reader.specs.Rules.{refusal_of}
+use Rattle.reader.proofs.Frame.{users_le}
+use Rattle.reader.proofs.Accepted.{accepted_frame}
 use Rattle.weights.specs.declared.Context.{Context}
 use Rattle.weights.specs.Acting.{may_act}
 use Rattle.weights.proofs.MayAct.{acting_known}
@@ -18,6 +22,10 @@ use Rattle.decision.specs.Decision.{out_of_date}
 pub in_set_in_date : (out : Bool) (s r : ℕ) → in_set (cond out 0 s) r ≡ (in_set s r && not out)
 in_set_in_date true s r = in_none r ∙ sym (and-false (in_set s r))
 in_set_in_date false s r = sym (and-true (in_set s r))
+
+-- an accepted base has few users
+pub few_users : (b : List ℕ) {n : ℕ} → refusal_of b ≡ 0 → n ≡ user_count b → n ≤ 24
+few_users b ok is = rw is (users_le b (accepted_frame b ok))
 
 -- users that aren't there may act in no role
 pub idle : (b : List ℕ) (u : ℕ) → user_count b ≤ u → set_below 8 (may_act b u) ≡ 0

@@ -6,27 +6,23 @@ use borrow.Author.Tests.{ltb-true, ltb-false}
 use Rattle.folds.specs.Below.{sum_below}
 use Rattle.folds.proofs.Bools.{met_or_not}
 use Rattle.reader.specs.Tables.{role_count, user_count}
-use Rattle.reader.specs.Rules.{refusal_of}
-use Rattle.reader.proofs.Frame.{users_le}
-use Rattle.reader.proofs.Accepted.{accepted_frame}
 use Rattle.weights.specs.declared.Context.{Context}
 use Rattle.weights.specs.declared.Fixed.{Fixed}
 use Rattle.multisets.specs.Ranks.{starts, first}
 use Rattle.multisets.specs.Ends.{NextEnds}
 use Rattle.multisets.proofs.Places.{first_mono}
 use Rattle.report.specs.Parts.{SetsInDate, UsersOf}
-use Rattle.report.proofs.InDate.{idle_in_date}
+use Rattle.report.proofs.InDate.{few_users, idle_in_date}
 use Rattle.report.proofs.parts.fill.Goals as goal
 
-module _ {b sets : List ℕ} {at : Context} (acting : SetsInDate b at sets) (ok : refusal_of b ≡ 0) where
-  few_users : {n : ℕ} → n ≡ user_count b → n ≤ 24
-  few_users e = rw e (users_le b (accepted_frame b ok))
-
-  idle_past : {n : ℕ} → n ≡ user_count b → (u : ℕ) → n ≤ u → get_or sets u 0 ≡ 0
-  idle_past e u past = ⊎_elim
-      (λ t. acting.user u (ltb-true u 24 t) ∙ idle_in_date b at u (rw e at past))
-      (λ t. get_or-eq_default sets 0 (omega (arith, ltb-false u 24 t, acting.size)))
-      (met_or_not (ltb u 24))
+-- users that aren't there have no set
+idle_past : {b sets : List ℕ} {at : Context} → SetsInDate b at sets → {n : ℕ} → n ≡ user_count b →
+    (u : ℕ) → n ≤ u → get_or sets u 0 ≡ 0
+idle_past {b} {sets} {at} acting e u past =
+    ⊎_elim
+    (λ t. acting.user u (ltb-true u 24 t) ∙ idle_in_date b at u (rw e at past))
+    (λ t. get_or-eq_default sets 0 (omega (arith, ltb-false u 24 t, acting.size)))
+    (met_or_not (ltb u 24))
 
 users_of : {b sets nexts : List ℕ} {s f : Fixed} → s ≡ f → SetsInDate b f.at sets → NextEnds sets nexts →
     UsersOf b s.at nexts
@@ -52,10 +48,8 @@ module _ {d : ℕ} where
 
 pub next_ends-nexts-requires : goal.next_ends-nexts-requires
 next_ends-nexts-requires c =
-    let p = c.requires in
     let n = c.user_count.ensures in
-    let acting = c.keep_in_date.ensures in
-    (few_users acting p.0.accepted n, idle_past acting p.0.accepted n)
+    (few_users _ c.requires.0.accepted n, idle_past c.keep_in_date.ensures n)
 
 pub fill_in-requires : goal.fill_in-requires
 fill_in-requires c =

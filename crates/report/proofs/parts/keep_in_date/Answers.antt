@@ -11,17 +11,16 @@ use Rattle.folds.proofs.Parts.{before_end, from_end, length_end}
 use Rattle.reader.specs.Tables.{users, table_of}
 use Rattle.reader.specs.Rules.{refusal_of}
 use Rattle.reader.specs.Days.{out_of_days}
-use Rattle.reader.proofs.Frame.{users_le}
-use Rattle.reader.proofs.Accepted.{accepted_frame}
 use Rattle.weights.specs.declared.Context.{Context}
 use Rattle.weights.specs.Acting.{may_act}
 use Rattle.decision.specs.Decision.{out_of_date}
 use Rattle.report.specs.Parts.{ActingSets, SetsInDate}
-use Rattle.report.proofs.InDate.{idle, idle_in_date}
+use Rattle.report.proofs.InDate.{few_users, idle, idle_in_date}
 use Rattle.report.proofs.parts.keep_in_date.Goals as goal
 
-few_users : (b : List ℕ) {us : List ℕ} → refusal_of b ≡ 0 → us ≡ table_of b users → length us / 8 ≤ 24
-few_users b ok table = rw table (users_le b (accepted_frame b ok))
+-- there is room for the users read
+room : (b : List ℕ) {us : List ℕ} → refusal_of b ≡ 0 → us ≡ table_of b users → length us / 8 ≤ 24
+room b ok table = few_users b ok (ap (λ t. length t / 8) table)
 
 -- what a turn makes of a user's set
 abbrev kept : List ℕ → ℕ → ℕ → ℕ → ℕ
@@ -51,11 +50,11 @@ module _ (b : List ℕ) (at : Context) (sets items : List ℕ) {us : List ℕ} {
   }
 
 pub slice_bounds-set-items-end : goal.slice_bounds-set-items-end
-slice_bounds-set-items-end c = few_users _ c.part-users.ensures.accepted c.part-users.ensures.table
+slice_bounds-set-items-end c = room _ c.part-users.ensures.accepted c.part-users.ensures.table
 
 pub returns : goal.returns
 returns c =
-    let few = few_users _ c.part-users.ensures.accepted c.part-users.ensures.table in
+    let few = room _ c.part-users.ensures.accepted c.part-users.ensures.table in
     let taken = length-take (length c.part-users.result.now / 8) c.args.sets.now in
     let whole : c.loop-u.u ≡ length c.part-users.result.now / 8 = omega arith in
     kept_in_date _ c.args.at c.args.sets.now c.loop-u.set-items refl c.part-users.ensures.table c.requires few
