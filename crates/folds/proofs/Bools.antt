@@ -18,6 +18,10 @@ and_right false b h = absurd (false≢true h)
 pub and_both : {a b : Bool} → a ≡ true → b ≡ true → (a && b) ≡ true
 and_both {a} {b} h k = rw (h, k)
 
+-- what follows from the second test follows behind the first
+pub and_wider : (a b : Bool) {c : Bool} → (b ≡ true → c ≡ true) → (a && b) ≡ true → (a && c) ≡ true
+and_wider a b wider h = and_both (and_left a b h) (wider (and_right a b h))
+
 pub and_either : (a b : Bool) → (a && b) ≡ false → (a ≡ false) ⊎ (b ≡ false)
 and_either true b h = inr h
 and_either false b h = inl refl

@@ -79,7 +79,7 @@ impl<'a> Base<'a> {
 
     // Inner: the number of users.
     pub fn user_count(&self) -> usize
-        ensures { result ≡ user_count self.now }
+        ensures { (result ≡ user_count self.now) × (result ≤ 24) }
     {
         self.frame.user_count()
     }

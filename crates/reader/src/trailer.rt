@@ -226,7 +226,7 @@ impl<'a> Frame<'a> {
 
     // Inner: the number of users.
     pub fn user_count(&self) -> usize
-        ensures { result ≡ user_count self.now }
+        ensures { (result ≡ user_count self.now) × (result ≤ 24) }
     {
         self.part(Table::Users).len() / 8
     }

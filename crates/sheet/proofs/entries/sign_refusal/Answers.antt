@@ -84,7 +84,7 @@ returns-then-is_unknown c =
     let a = c.args in
     let e = c.in_ok-base.ensures in
     let rest9 = past9 _ _ a.held.now a.user a.role e.same e.number in
-    let there = unknown_is _ a.user a.role c.user_count.ensures c.role_count.ensures.0 c.is_unknown.ensures in
+    let there = unknown_is _ a.user a.role c.user_count.ensures.0 c.role_count.ensures.0 c.is_unknown.ensures in
     at13 _ _ _ _ _ rest9 there c.if-is_unknown.true
 
 pub returns-then-stands_in : goal.returns-then-stands_in
@@ -92,7 +92,7 @@ returns-then-stands_in c =
     let a = c.args in
     let e = c.in_ok-base.ensures in
     let rest9 = past9 _ _ a.held.now a.user a.role e.same e.number in
-    let there = unknown_is _ a.user a.role c.user_count.ensures c.role_count.ensures.0 c.is_unknown.ensures in
+    let there = unknown_is _ a.user a.role c.user_count.ensures.0 c.role_count.ensures.0 c.is_unknown.ensures in
     let rest13 = past13 _ _ _ _ _ rest9 there c.if-is_unknown.false in
     at14 _ _ _ _ _ rest13 c.stands_in.ensures c.if-stands_in.true
 
@@ -101,7 +101,7 @@ returns-then-not-may_act c =
     let a = c.args in
     let e = c.in_ok-base.ensures in
     let rest9 = past9 _ _ a.held.now a.user a.role e.same e.number in
-    let there = unknown_is _ a.user a.role c.user_count.ensures c.role_count.ensures.0 c.is_unknown.ensures in
+    let there = unknown_is _ a.user a.role c.user_count.ensures.0 c.role_count.ensures.0 c.is_unknown.ensures in
     let rest13 = past13 _ _ _ _ _ rest9 there c.if-is_unknown.false in
     let rest14 = past14 _ _ _ _ _ rest13 c.stands_in.ensures c.if-stands_in.false in
     let may = may_is a.user a.role c.of.ensures c.may_act.ensures in
@@ -112,7 +112,7 @@ returns-then-held-ge6 c =
     let a = c.args in
     let e = c.in_ok-base.ensures in
     let rest9 = past9 _ _ a.held.now a.user a.role e.same e.number in
-    let there = unknown_is _ a.user a.role c.user_count.ensures c.role_count.ensures.0 c.is_unknown.ensures in
+    let there = unknown_is _ a.user a.role c.user_count.ensures.0 c.role_count.ensures.0 c.is_unknown.ensures in
     let rest13 = past13 _ _ _ _ _ rest9 there c.if-is_unknown.false in
     let rest14 = past14 _ _ _ _ _ rest13 c.stands_in.ensures c.if-stands_in.false in
     let may = may_is a.user a.role c.of.ensures c.may_act.ensures in
@@ -124,7 +124,7 @@ returns c =
     let a = c.args in
     let e = c.in_ok-base.ensures in
     let rest9 = past9 _ _ a.held.now a.user a.role e.same e.number in
-    let there = unknown_is _ a.user a.role c.user_count.ensures c.role_count.ensures.0 c.is_unknown.ensures in
+    let there = unknown_is _ a.user a.role c.user_count.ensures.0 c.role_count.ensures.0 c.is_unknown.ensures in
     let rest13 = past13 _ _ _ _ _ rest9 there c.if-is_unknown.false in
     let rest14 = past14 _ _ _ _ _ rest13 c.stands_in.ensures c.if-stands_in.false in
     let may = may_is a.user a.role c.of.ensures c.may_act.ensures in

@@ -47,18 +47,18 @@ returns-then-length_refused-clause-number c = by_12 c.args.acting.now c.args.gro
 pub returns-then-some_unknown-clause-number : goal.returns-then-some_unknown-clause-number
 returns-then-some_unknown-clause-number c =
     by_13 c.args.acting.now c.args.group.now (sym c.if-length_refused.ensures)
-    (unknown_is _ _ c.if-some_unknown.ensures c.user_count.ensures c.role_count.ensures.0)
+    (unknown_is _ _ c.if-some_unknown.ensures c.user_count.ensures.0 c.role_count.ensures.0)
 
 pub returns-then-some_twice-clause-number : goal.returns-then-some_twice-clause-number
 returns-then-some_twice-clause-number c =
     by_14 c.args.acting.now c.args.group.now (sym c.if-length_refused.ensures)
-    (unknown_is _ _ c.if-some_unknown.ensures c.user_count.ensures c.role_count.ensures.0)
+    (unknown_is _ _ c.if-some_unknown.ensures c.user_count.ensures.0 c.role_count.ensures.0)
     (sym c.if-some_twice.ensures)
 
 pub returns-then-some_ineligible-clause-number : goal.returns-then-some_ineligible-clause-number
 returns-then-some_ineligible-clause-number c =
     by_15 c.args.acting.now c.args.group.now (sym c.if-length_refused.ensures)
-    (unknown_is _ _ c.if-some_unknown.ensures c.user_count.ensures c.role_count.ensures.0)
+    (unknown_is _ _ c.if-some_unknown.ensures c.user_count.ensures.0 c.role_count.ensures.0)
     (sym c.if-some_twice.ensures) (sym c.if-some_ineligible.ensures)
 
 pub invariant_of-result : goal.invariant_of-result
@@ -72,5 +72,5 @@ returns-clause-seated c =
 pub returns-clause-number : goal.returns-clause-number
 returns-clause-number c =
     by_none c.args.acting.now c.args.group.now (sym c.if-length_refused.ensures)
-    (unknown_is _ _ c.if-some_unknown.ensures c.user_count.ensures c.role_count.ensures.0)
+    (unknown_is _ _ c.if-some_unknown.ensures c.user_count.ensures.0 c.role_count.ensures.0)
     (sym c.if-some_twice.ensures) (sym c.if-some_ineligible.ensures)
