@@ -1,21 +1,15 @@
 -- The sets of roles of the users whose days include a date: who is in them, who is in none, and how many users there
 -- are.
-use Prim.Native.Nat.{ℕ, ◌^◌, ◌≤◌}
+use Prim.Native.Nat.{ℕ, ◌≤◌}
 use mathlib.Core.Bool.{Bool, true, false, not, ◌&&◌, cond, and-false, and-true}
 use mathlib.Core.Path.{◌≡◌, refl, sym, ◌∙◌}
 use mathlib.Core.List.{List}
-use native.Mathlib.Omega.{arith}
 use Rattle.folds.specs.Sets.{in_set, set_below}
-use Rattle.folds.proofs.Bools.{never_met}
-use Rattle.folds.proofs.Numbers.{sum_zero}
 use Rattle.folds.proofs.Sets.{in_none}
 use Rattle.reader.specs.Tables.{user_count}
-use Rattle.reader.specs.Rules.{refusal_of}
-use Rattle.reader.proofs.Frame.{users_le}
-use Rattle.reader.proofs.Accepted.{accepted_frame}
 use Rattle.weights.specs.declared.Context.{Context}
 use Rattle.weights.specs.Acting.{may_act}
-use Rattle.weights.proofs.MayAct.{acting_known}
+use Rattle.weights.proofs.MayAct.{idle}
 use Rattle.decision.specs.Decision.{out_of_date}
 
 -- a role is in the set of a user in date exactly where it was in the set before
@@ -23,19 +17,7 @@ pub in_set_in_date : (out : Bool) (s r : ℕ) → in_set (cond out 0 s) r ≡ (i
 in_set_in_date true s r = in_none r ∙ sym (and-false (in_set s r))
 in_set_in_date false s r = sym (and-true (in_set s r))
 
--- an accepted base has few users
-pub few_users : (b : List ℕ) {n : ℕ} → refusal_of b ≡ 0 → n ≡ user_count b → n ≤ 24
-few_users b ok is = rw is (users_le b (accepted_frame b ok))
-
--- users that aren't there may act in no role
-pub idle : (b : List ℕ) (u : ℕ) → user_count b ≤ u → set_below 8 (may_act b u) ≡ 0
-unfolding set_below
-idle b u past = sum_zero (λ r. cond (may_act b u r) (2 ^ r) 0) 8 (λ r l. rw (none r))
-  where
-    none : (r : ℕ) → may_act b u r ≡ false
-    none r = never_met (may_act b u r) (λ h. omega (arith, (acting_known b u r h).0))
-
--- so their sets are empty, in date or not
+-- the sets of users that aren't there are empty, in date or not
 pub idle_in_date : (b : List ℕ) (at : Context) (u : ℕ) → user_count b ≤ u →
     cond (out_of_date b at u) 0 (set_below 8 (may_act b u)) ≡ 0
 idle_in_date b at u past = rw (idle b u past) (by (out_of_date b at u))

@@ -16,12 +16,8 @@ use Rattle.report.specs.declared.parts.Grounds.{Grounds}
 use Rattle.report.specs.Smallest.{Deciding, smallest_by}
 use Rattle.report.specs.Report.{ShownFor, part_bytes, releasable}
 
--- for each of 24 users the set of the roles that the user may act in; empty for users that aren't there
-pub record ActingSets (b sets : List ℕ) : Type 0 where
-  pub size : length sets ≡ 24
-  pub user : (u : ℕ) → u < 24 → get_or sets u 0 ≡ set_below 8 (may_act b u)
-
--- the same of the users whose days include the context's date; empty for the others too
+-- for each of 24 users the set of the roles that the user may act in, if the user's days include the context's date;
+-- empty for the others, and for users that aren't there
 pub record SetsInDate (b : List ℕ) (at : Context) (sets : List ℕ) : Type 0 where
   pub size : length sets ≡ 24
   pub user : (u : ℕ) → u < 24 → get_or sets u 0 ≡ cond (out_of_date b at u) 0 (set_below 8 (may_act b u))

@@ -2,8 +2,8 @@
 ghost use Rattle.std.specs.Prelude.{◌≡◌, ◌∷◌, ◌*◌, ◌≤◌, ◌<◌, length, replicate, IfSome, MatchOption};
 ghost use Rattle.reader.specs.Tables.{permission_count, role_count};
 ghost use Rattle.multisets.specs.Ranks.{first};
-ghost use Rattle.report.specs.Parts.{ActingSets, SetsInDate, PartFor, FilledBy, Settled, decided};
-ghost use Rattle.report.specs.Parts.{GroundsOf, UsersOf};
+ghost use Rattle.weights.specs.Setting.{ActingSets};
+ghost use Rattle.report.specs.Parts.{SetsInDate, PartFor, FilledBy, Settled, decided, GroundsOf, UsersOf};
 
 use masks::Placed;
 use multisets::ends::{self, Nexts};
@@ -14,26 +14,28 @@ use seek::{Found, Masks};
 use weights::acting::Acting;
 use weights::{Chosen, Context, Fixed};
 
-// For each user the set of the roles that the user may act in.
-fn acting_sets(base: &Base<'_>, fixed: Fixed) -> [u8; 24]
-    requires { Settled base.now fixed }
-    ensures { ActingSets base.now result }
-{
-    let acting = Acting::by(base, fixed.juniors);
-    std::array::from_fn(|u| acting.roles(u))
-}
-
 // Leaves the users whose days don't include the date without a role.
 fn keep_in_date(base: &Base<'_>, at: Context, sets: &mut [u8; 24])
     requires { ActingSets base.now sets.old }
     ensures { SetsInDate base.now at sets.new }
 {
     let users = base.part(Table::Users);
-    for (u, set) in sets[..users.len() / 8].iter_mut().enumerate() {
+    for (u, set) in sets[..base.user_count()].iter_mut().enumerate() {
         if Days::of(users, u).leave_out(at.date) {
             *set = 0;
         }
     }
+}
+
+// For each user in date the set of the roles in which the user may act. Apart from `fill`, or the compiler clears the
+// large tables twice.
+fn sets_in_date(base: &Base<'_>, fixed: Fixed) -> [u8; 24]
+    requires { Settled base.now fixed }
+    ensures { SetsInDate base.now fixed.at result }
+{
+    let mut sets = Acting::by(base, fixed.juniors).sets();
+    keep_in_date(base, fixed.at, &mut sets);
+    sets
 }
 
 // What a report goes by for every permission: the setting, the weights that count, and the sets' numbers of roles. Base
@@ -137,8 +139,7 @@ pub fn fill(base: &Base<'_>, fixed: Fixed, out: &mut [u8]) -> u32
     ensures { FilledBy (decided base.now fixed) (permission_count base.now) out.old out.new result }
 {
     let s = grounds_of(base, fixed);
-    let mut sets = acting_sets(base, fixed);
-    keep_in_date(base, fixed.at, &mut sets);
+    let sets = sets_in_date(base, fixed);
     let nexts = ends::next_ends(&sets, base.user_count());
     match base.role_count() {
         0..=3 => fill_in::<280, 84>(base, &s, nexts, out),

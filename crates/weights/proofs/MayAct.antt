@@ -1,7 +1,7 @@
 -- The laws of acting: who may act in a role, in the paper's words, and what follows for holders, chains and a base
 -- without hierarchy.
-use Prim.Native.Nat.{ℕ, ◌<◌, ◌≤◌}
-use mathlib.Core.Bool.{Bool, true, false, ◌&&◌, ◌||◌, or-true, false≢true}
+use Prim.Native.Nat.{ℕ, ◌^◌, ◌<◌, ◌≤◌}
+use mathlib.Core.Bool.{Bool, true, false, ◌&&◌, ◌||◌, cond, or-true, false≢true}
 use mathlib.Core.Path.{◌≡◌, refl, sym, subst, ◌∙◌}
 use mathlib.Core.Logic.{◌⊎◌, inl, inr, ⊎_elim, ◌↔◌}
 use mathlib.Core.List.{List}
@@ -14,6 +14,7 @@ use Rattle.folds.specs.Below.{any_below}
 use Rattle.folds.specs.Sets.{in_set, set_below}
 use Rattle.folds.proofs.Bools.{and_left, and_right, and_both, or_either, never_met, same_test}
 use Rattle.folds.proofs.Tests.{any_found, any_some}
+use Rattle.folds.proofs.Numbers.{sum_zero}
 use Rattle.folds.proofs.Sets.{in_whole, same_members}
 use Rattle.reader.specs.Tables.{hierarchy, users, role_count, user_count, table_of, record_count}
 use Rattle.reader.specs.Fields.{parameter}
@@ -77,6 +78,14 @@ of_acting b u r a =
 -- whoever may act in a role is a user of the base, and the role is there
 pub acting_known : (b : List ℕ) (u r : ℕ) → may_act b u r ≡ true → (u < user_count b) × (r < role_count b)
 acting_known b u r h = let a = acting_of b u r h in (a.user, a.role)
+
+-- users that aren't there may act in no role
+pub idle : (b : List ℕ) (u : ℕ) → user_count b ≤ u → set_below 8 (may_act b u) ≡ 0
+unfolding set_below
+idle b u past = sum_zero (λ r. cond (may_act b u r) (2 ^ r) 0) 8 (λ r l. rw (none r))
+  where
+    none : (r : ℕ) → may_act b u r ≡ false
+    none r = never_met (may_act b u r) (λ h. omega (arith, (acting_known b u r h).0))
 
 -- whoever holds a role may act in it
 pub held_acting : (b : List ℕ) (u r : ℕ) → holds b u r ≡ true → may_act b u r ≡ true

@@ -1,4 +1,4 @@
--- Who may act in a role, as request Two has it: refusal 15 asks for this.
+-- Who may act in a role, as request Two has it: refusal 15 and conflicts of kind 3 ask for this.
 use Rattle.std.specs.Prelude.{ℕ, Bool, ◌&&◌, ◌||◌, List, ltb}
 use Rattle.folds.specs.Below.{any_below}
 use Rattle.reader.specs.Tables.{hierarchy, role_count, user_count, table_of}

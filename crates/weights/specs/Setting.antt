@@ -1,14 +1,15 @@
--- What the functions of this layer hand on: the setting of a base, a context and a list of rules, and the weights of
--- all roles.
+-- What the functions of this layer hand on: the setting of a base, a context and a list of rules, the weights of all
+-- roles, and who may act in which.
 use Rattle.std.specs.Prelude.{ℕ, ◌+◌, ◌*◌, ◌≤◌, ◌<◌, Bool, true, cond, ◌&&◌, ◌||◌, ◌≡◌, List, length, get_or, take, eqb}
 use Rattle.folds.specs.Below.{sum_below}
-use Rattle.folds.specs.Sets.{in_set}
+use Rattle.folds.specs.Sets.{in_set, set_below}
 use Rattle.reader.specs.Tables.{hierarchy, contexts, table_of}
 use Rattle.reader.specs.Fields.{senior, junior}
 use Rattle.weights.specs.declared.Context.{Context}
 use Rattle.weights.specs.declared.Fixed.{Fixed}
 use Rattle.weights.specs.Contexts.{context_holds}
 use Rattle.weights.specs.Seniority.{senior_to}
+use Rattle.weights.specs.Acting.{may_act}
 use Rattle.resolution.specs.Resolution.{goes_before}
 use Rattle.weights.specs.Weights.{chosen_weight, any_type, type_one, own, inh, weight}
 
@@ -19,6 +20,11 @@ pub record Holding (at : Context) (c : List ℕ) (s : ℕ) : Type 0 where
 -- the bytes are the sets of each role's juniors by the table H, roles 0 to 7
 pub record Juniors (h bytes : List ℕ) : Type 0 where
   pub role : (s j : ℕ) → s < 8 → in_set (get_or bytes s 0) j ≡ senior_to h s j
+
+-- for each of 24 users the set of the roles that the user may act in; empty for users that aren't there
+pub record ActingSets (b sets : List ℕ) : Type 0 where
+  pub size : length sets ≡ 24
+  pub user : (u : ℕ) → u < 24 → get_or sets u 0 ≡ set_below 8 (may_act b u)
 
 -- the rules that a setting carries, in their order; none where no list was lent
 abbrev pub rules_of : Fixed → List ℕ

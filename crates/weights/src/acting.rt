@@ -4,7 +4,7 @@ ghost use Rattle.folds.specs.Sets.{set_below};
 ghost use Rattle.reader.specs.Tables.{hierarchy, table_of, role_count, user_count};
 ghost use Rattle.reader.specs.Rules.{refusal_of};
 ghost use Rattle.weights.specs.Acting.{may_act};
-ghost use Rattle.weights.specs.Setting.{Juniors};
+ghost use Rattle.weights.specs.Setting.{Juniors, ActingSets};
 
 use crate::{seniority, sets};
 use reader::{Base, Table, codes};
@@ -57,7 +57,7 @@ impl<'a> Acting<'a> {
 
     // Inner: the number of users.
     pub fn user_count(&self) -> usize
-        ensures { result ≡ user_count self.now }
+        ensures { (result ≡ user_count self.now) × (result ≤ 24) }
     {
         self.base.user_count()
     }
@@ -77,6 +77,18 @@ impl<'a> Acting<'a> {
                 set
             }
         })
+    }
+
+    // Inner: for each of 24 users the set of the roles in which the user may act; one that isn't there acts in none.
+    pub fn sets(&self) -> [u8; 24]
+        ensures { ActingSets self.now result }
+    {
+        let mut sets = [0; 24];
+        // A loop, for `array::from_fn` would ask for all 24.
+        for (u, set) in sets[..self.user_count()].iter_mut().enumerate() {
+            *set = self.roles(u);
+        }
+        sets
     }
 
     // Inner: the user may act in the role; neither need be there.

@@ -12,7 +12,7 @@ use Rattle.multisets.specs.Ranks.{starts, first}
 use Rattle.multisets.specs.Ends.{NextEnds}
 use Rattle.multisets.proofs.Places.{first_mono}
 use Rattle.report.specs.Parts.{SetsInDate, UsersOf}
-use Rattle.report.proofs.InDate.{few_users, idle_in_date}
+use Rattle.report.proofs.InDate.{idle_in_date}
 use Rattle.report.proofs.parts.fill.Goals as goal
 
 -- users that aren't there have no set
@@ -48,15 +48,15 @@ module _ {d : ℕ} where
 
 pub next_ends-nexts-requires : goal.next_ends-nexts-requires
 next_ends-nexts-requires c =
-    let n = c.user_count.ensures in
-    (few_users _ c.requires.0.accepted n, idle_past c.keep_in_date.ensures n)
+    let (count, few) = c.user_count.ensures in
+    (few, idle_past c.sets_in_date-sets.ensures count)
 
 pub fill_in-requires : goal.fill_in-requires
 fill_in-requires c =
     let p = c.requires in
     let few : role_count c.args.base.now ≤ 3 = omega (arith, c.role_count.ensures.0) in
     let (rows, places) = room_for_3 few in
-    let users = users_of c.grounds_of-s.ensures.0 c.keep_in_date.ensures c.next_ends-nexts.ensures in
+    let users = users_of c.grounds_of-s.ensures.0 c.sets_in_date-sets.ensures c.next_ends-nexts.ensures in
     (c.grounds_of-s.ensures.1, users, rows, places, omega arith, omega arith, p.1)
 
 pub fill_in-requires-in-4 : goal.fill_in-requires-in-4
@@ -64,7 +64,7 @@ fill_in-requires-in-4 c =
     let p = c.requires in
     let few : role_count c.args.base.now ≤ 5 = omega (arith, c.role_count.ensures.0) in
     let (rows, places) = room_for_5 few in
-    let users = users_of c.grounds_of-s.ensures.0 c.keep_in_date.ensures c.next_ends-nexts.ensures in
+    let users = users_of c.grounds_of-s.ensures.0 c.sets_in_date-sets.ensures c.next_ends-nexts.ensures in
     (c.grounds_of-s.ensures.1, users, rows, places, omega arith, omega arith, p.1)
 
 pub fill_in-requires-in_default : goal.fill_in-requires-in_default
@@ -72,5 +72,5 @@ fill_in-requires-in_default c =
     let p = c.requires in
     let few : role_count c.args.base.now ≤ 8 = omega (arith, c.role_count.ensures) in
     let (rows, places) = room_for_8 few in
-    let users = users_of c.grounds_of-s.ensures.0 c.keep_in_date.ensures c.next_ends-nexts.ensures in
+    let users = users_of c.grounds_of-s.ensures.0 c.sets_in_date-sets.ensures c.next_ends-nexts.ensures in
     (c.grounds_of-s.ensures.1, users, rows, places, omega arith, omega arith, p.1)
