@@ -15,18 +15,22 @@ use Rattle.folds.proofs.Bools.{met_or_not, never_met}
 use Rattle.folds.proofs.Tests.{any_found, any_same, any_tail}
 use Rattle.folds.proofs.Sets.{meet_some}
 use Rattle.reader.specs.Tables.{hierarchy, contexts, policies, exclusions}
-use Rattle.reader.specs.Tables.{role_count, permission_count, table_of, record_count}
+use Rattle.reader.specs.Tables.{role_count, permission_count, user_count, table_of, record_count}
 use Rattle.reader.specs.Fields.{policy_role, policy_permission, policy_type, policy_context}
+use Rattle.reader.specs.Fields.{exclusion_first, exclusion_second}
 use Rattle.reader.specs.Rules.{refusal_of}
-use Rattle.reader.proofs.Frame.{roles_range, permissions_le}
+use Rattle.reader.proofs.Frame.{roles_range, permissions_le, users_le}
 use Rattle.reader.proofs.Accepted.{PolicyFine, accepted, policy_fine}
 use Rattle.weights.specs.Seniority.{senior_to}
+use Rattle.weights.specs.Acting.{may_act}
+use Rattle.weights.specs.Setting.{ActingSets}
 use Rattle.weights.proofs.Chains.{senior_down}
+use Rattle.weights.proofs.MayAct.{acting_in}
 use Rattle.related.specs.Related.{related}
-use Rattle.conflicts.specs.Conflicts.{contradict, covers, cover_both, overlap}
+use Rattle.conflicts.specs.Conflicts.{contradict, covers, cover_both, overlap, both_among, holds_both}
 use Rattle.related.specs.Slots.{slot_of, number_at, named, Relations}
 use Rattle.conflicts.specs.Rows.{Covers, Excluded}
-use Rattle.conflicts.specs.Rows.{related_by, contradict_by, overlap_by, Rows, Contradictions, Overlaps}
+use Rattle.conflicts.specs.Rows.{related_by, contradict_by, overlap_by, Rows, Contradictions, Overlaps, Holders}
 use Rattle.related.proofs.Relating.{related_sym}
 
 -- what agrees below n and m has the same rows
@@ -139,3 +143,16 @@ module _ (b : List ℕ) (ok : refusal_of b ≡ 0) where
       rows_same _ _ (overlap_by apart covered a) (overlap (role_count b) h (table_of b exclusions) a) rows
       (λ i j li lj. let p = apart_is.permission _ _ (permission_below i li) (permission_below j lj) in
       rw (p, cover_rows covered cov i j li lj))
+
+  -- the rows of kind 3, by the sets of the roles in which the users may act
+  pub holders_found : (sets rows : List ℕ) → ActingSets b sets →
+      Rows (user_count b) (record_count exclusions (table_of b exclusions))
+      (λ u. both_among (in_set (get_or sets u 0)) (table_of b exclusions)) rows →
+      Holders b rows
+  unfolding holds_both both_among
+  holders_found sets rows acting =
+      let x = table_of b exclusions in
+      rows_same _ _ (λ u. both_among (in_set (get_or sets u 0)) x) (holds_both may_act b) rows
+      (λ u e l m.
+      let few : u < 24 = lt_of_lt_of_le l (users_le b (accepted b ok).frame) in
+      rw (acting.user u few, acting_in b ok u (exclusion_first x e), acting_in b ok u (exclusion_second x e)))

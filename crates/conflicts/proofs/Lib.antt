@@ -4,3 +4,4 @@ pub mod Excluding
 pub mod Lists
 pub mod Found
 pub mod Loops
+pub mod Listed

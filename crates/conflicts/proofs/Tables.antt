@@ -9,24 +9,22 @@ use borrow.Author.Tests.{lt-ltb, le-ltb}
 use Rattle.folds.proofs.Tests.{any_each}
 use lib.ListN.{length}
 use lib.Dec.{eqb, lit<}
-use Rattle.reader.specs.Tables.{users, policies, exclusions, record_count, table_of}
+use Rattle.reader.specs.Tables.{policies, exclusions, record_count, table_of}
 use Rattle.reader.specs.Rules.{exclusion_bad, exclusions_bad, refusal_of}
-use Rattle.reader.proofs.Accepted.{exclusion_fine, records_le}
+use Rattle.reader.proofs.Frame.{roles_range, permissions_le}
+use Rattle.reader.proofs.Accepted.{accepted, exclusion_fine, records_le}
 use Rattle.reader.specs.Fields.{exclusion_kind, exclusion_first, exclusion_second}
 
--- at most 64 policies, users and exclusions: the rows and their bits
+-- at most 64 policies and exclusions: the rows and their bits
 module _ (b : List ℕ) (ok : refusal_of b ≡ 0) {t : List ℕ} where
   pub few_policies : t ≡ table_of b policies → length t / 8 ≤ 64
   few_policies e = rw e (records_le b ok policies (lit< tt))
-
-  pub few_users : t ≡ table_of b users → length t / 8 ≤ 64
-  few_users e = rw e (let n = records_le b ok users (lit< tt) in omega arith)
 
   pub few_exclusions : t ≡ table_of b exclusions → length t / 3 ≤ 64
   few_exclusions e = rw e (let n = records_le b ok exclusions (lit< tt) in omega arith)
 
 -- a table X that passed the check passes it with more roles and permissions
-pub exclusions_wider : (R P S Q : ℕ) (x : List ℕ) → R ≤ S → P ≤ Q → exclusions_bad R P x ≡ false →
+exclusions_wider : (R P S Q : ℕ) (x : List ℕ) → R ≤ S → P ≤ Q → exclusions_bad R P x ≡ false →
     exclusions_bad S Q x ≡ false
 unfolding exclusions_bad exclusion_bad
 exclusions_wider R P S Q x r p fine =
@@ -39,11 +37,18 @@ exclusions_wider R P S Q x r p fine =
     more true = r
     more false = p
 
--- the permissions of an exclusion of kind 1 are below 16
-pub permissions_small : (x : List ℕ) (e : ℕ) → exclusions_bad 8 16 x ≡ false → e < record_count exclusions x →
-    exclusion_kind x e ≡ 1 → (exclusion_first x e < 16) × (exclusion_second x e < 16)
-permissions_small x e fine l one =
+-- and that of an accepted base passes it with 8 and 16
+pub exclusions_small : (b : List ℕ) → refusal_of b ≡ 0 → exclusions_bad 8 16 (table_of b exclusions) ≡ false
+exclusions_small b ok =
+    let f = accepted b ok in
+    exclusions_wider _ _ 8 16 _ (roles_range b f.frame).1 (permissions_le b f.frame) f.exclusions
+
+-- then the roles of an exclusion are below 8, and its permissions below 16
+pub numbers_small : (x : List ℕ) (e : ℕ) → exclusions_bad 8 16 x ≡ false → e < record_count exclusions x →
+    {roles : Bool} → eqb (exclusion_kind x e) 0 ≡ roles →
+    (exclusion_first x e < cond roles 8 16) × (exclusion_second x e < cond roles 8 16)
+numbers_small x e fine l {roles} is =
     let f = exclusion_fine 8 16 x e fine l in
-    let small : exclusion_second x e < 16 = rw one at f.there in
+    let second : exclusion_second x e < cond roles 8 16 = rw is at f.there in
     let h = f.rising in
-    (omega arith, small)
+    (omega arith, second)

@@ -4,10 +4,10 @@ use Rattle.folds.specs.Below.{any_below, join_below}
 use Rattle.reader.specs.Tables.{hierarchy, users, contexts, policies, exclusions, role_count, table_of, record_count}
 use Rattle.reader.specs.Fields.{policy_role, policy_permission, policy_weight, policy_type, policy_context}
 use Rattle.reader.specs.Fields.{exclusion_kind, exclusion_first, exclusion_second}
-use Rattle.reader.specs.Codes.{held_by}
 use Rattle.reader.specs.Rules.{refusal_of}
 use Rattle.reader.specs.declared.Answer.{Answer}
 use Rattle.weights.specs.Seniority.{senior_to}
+use Rattle.weights.specs.Acting.{may_act}
 use Rattle.related.specs.Related.{related}
 
 -- policies i and j have equal role and permission, and different weight or type
@@ -43,24 +43,33 @@ cover_both R h a i j = any_below R (λ r. covers h a i r && covers h a j r)
 unfoldable pub overlap : ℕ → List ℕ → List ℕ → List ℕ → ℕ → ℕ → Bool
 overlap R h x a i j = ltb i j && (excluded x (policy_permission a i) (policy_permission a j) && cover_both R h a i j)
 
--- kind 3: user u, exclusion record e of kind 0, where u holds both its roles
-unfoldable pub holds_both : ℕ → List ℕ → List ℕ → ℕ → ℕ → Bool
-holds_both R us x u e =
-    eqb (exclusion_kind x e) 0 && (held_by R us u (exclusion_first x e) && held_by R us u (exclusion_second x e))
+-- exclusion record e is of kind 0, and both its roles are among these
+unfoldable pub both_among : (ℕ → Bool) → List ℕ → ℕ → Bool
+both_among roles x e =
+    eqb (exclusion_kind x e) 0 && (roles (exclusion_first x e) && roles (exclusion_second x e))
+
+-- kind 3, by a reading of which roles a user has: user u, exclusion record e of kind 0, where u has both its roles
+unfoldable pub holds_both : (List ℕ → ℕ → ℕ → Bool) → List ℕ → ℕ → ℕ → Bool
+holds_both has b u e = both_among (has b u) (table_of b exclusions) e
 
 -- the records (kind, first, second) of the pairs below n and m of which p holds, by first, then second
 unfoldable pub pairs_below : ℕ → ℕ → ℕ → (ℕ → ℕ → Bool) → List ℕ
 pairs_below kind n m p = join_below n (λ i. join_below m (λ j. cond (p i j) (kind ∷ i ∷ j ∷ []) []))
 
--- the conflict list of a base
+-- the records of kind 3, by such a reading
+unfoldable pub holders_by : (List ℕ → ℕ → ℕ → Bool) → List ℕ → List ℕ
+holders_by has b =
+    pairs_below 3 (record_count users (table_of b users)) (record_count exclusions (table_of b exclusions))
+    (holds_both has b)
+
+-- the conflict list of a base; by request Eight a user has the roles in which request Two lets the user act
 unfoldable pub conflicts : List ℕ → List ℕ
 conflicts b =
     pairs_below 1 (record_count policies (table_of b policies)) (record_count policies (table_of b policies))
     (contradict (table_of b contexts) (table_of b policies))
     ++ (pairs_below 2 (record_count policies (table_of b policies)) (record_count policies (table_of b policies))
     (overlap (role_count b) (table_of b hierarchy) (table_of b exclusions) (table_of b policies))
-    ++ pairs_below 3 (record_count users (table_of b users)) (record_count exclusions (table_of b exclusions))
-    (holds_both (role_count b) (table_of b users) (table_of b exclusions)))
+    ++ holders_by may_act b)
 
 -- the number of its records
 unfoldable pub conflict_count : List ℕ → ℕ

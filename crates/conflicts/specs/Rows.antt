@@ -5,6 +5,7 @@ use Rattle.folds.specs.Below.{join_below}
 use Rattle.folds.specs.Sets.{in_set}
 use Rattle.reader.specs.Tables.{hierarchy, users, contexts, policies, exclusions, role_count, table_of, record_count}
 use Rattle.reader.specs.Fields.{policy_permission, policy_context}
+use Rattle.weights.specs.Acting.{may_act}
 use Rattle.related.specs.Slots.{slot_of}
 use Rattle.conflicts.specs.Conflicts.{disagree, contradict, covers, excluded, overlap, holds_both}
 
@@ -55,7 +56,7 @@ Overlaps b =
 abbrev pub Holders : List ℕ → List ℕ → Type 0
 Holders b =
     Rows (record_count users (table_of b users)) (record_count exclusions (table_of b exclusions))
-    (holds_both (role_count b) (table_of b users) (table_of b exclusions))
+    (holds_both may_act b)
 
 -- the records of one row: kind and first, and each member as second
 unfoldable pub row_records : ℕ → ℕ → ℕ → List ℕ

@@ -1,5 +1,5 @@
 // What policies cover, and which permissions exclude each other.
-ghost use Rattle.std.specs.Prelude.{◌≡◌, false, ◌&&◌, ◌||◌, ℕ, ◌/◌, ◌<◌, List, length, get_or, eqb};
+ghost use Rattle.std.specs.Prelude.{◌≡◌, false, ◌&&◌, ◌||◌, ℕ, ◌<◌, List, length, get_or, eqb};
 ghost use Rattle.folds.specs.Sets.{in_set};
 ghost use Rattle.reader.specs.Tables.{policies, record_count};
 ghost use Rattle.reader.specs.Rules.{exclusions_bad};

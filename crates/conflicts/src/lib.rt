@@ -6,6 +6,7 @@ ghost use Rattle.reader.specs.Refusals.{answer_from};
 ghost use Rattle.conflicts.specs.Conflicts.{conflict_answer, conflict_bytes};
 
 use reader::{Refusal, Refused};
+use weights::acting::Acting;
 
 mod covers;
 mod exclusions;
@@ -20,8 +21,9 @@ pub fn list(base: &[u8], out: &mut [u8]) -> Result<u32, Refused>
 {
     let base = reader::accept(base)?;
     let one = rows::contradictions(&base);
-    let two = rows::overlaps(&base);
-    let three = rows::holders(&base);
+    let acting = Acting::of(&base);
+    let two = rows::overlaps(&base, acting.juniors());
+    let three = rows::holders(&base, &acting.sets());
     let count = one.count() + two.count() + three.count();
     if out.len() < 3 * (count as usize) {
         return Err(Refused {

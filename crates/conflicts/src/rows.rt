@@ -1,15 +1,16 @@
-// The conflicts of each kind as rows of bits, a row for each first. Users and roles, and a record's bound, come as the
-// definitions take them.
-ghost use Rattle.std.specs.Prelude.{◌≡◌, false, ◌&&◌, ◌⊎◌, ℕ, Bool, ◌+◌, ◌*◌, ◌/◌, ◌≤◌, ◌<◌, length, get_or, ltb};
+// The conflicts of each kind as rows of bits, a row for each first.
+ghost use Rattle.std.specs.Prelude.{◌≡◌, false, ◌&&◌, ◌⊎◌, ℕ, Bool, ◌≤◌, ◌<◌, get_or, ltb};
 ghost use Rattle.folds.specs.Sets.{in_set};
-ghost use Rattle.reader.specs.Tables.{users, policies, table_of, record_count};
-ghost use Rattle.conflicts.specs.Conflicts.{disagree, holds_both};
+ghost use Rattle.reader.specs.Tables.{hierarchy, users, policies, exclusions, table_of, record_count};
+ghost use Rattle.reader.specs.Rules.{exclusions_bad};
+ghost use Rattle.weights.specs.Setting.{Juniors, ActingSets};
+ghost use Rattle.conflicts.specs.Conflicts.{disagree, both_among};
 ghost use Rattle.conflicts.specs.Kinds.{kind_number};
 ghost use Rattle.conflicts.specs.Rows.{related_by, contradict_by, overlap_by, Contradictions, Overlaps, Holders};
 
 use crate::exclusions::Exclusion;
 use crate::{covers, filling};
-use reader::{Base, Policies, Table, codes};
+use reader::{Base, Policies, Table};
 use related::slots;
 use weights::sets;
 
@@ -125,25 +126,22 @@ fn overlap_row(apart: &[u32; 16], covered: &[u8; 64], a: &Policies<'_>, i: usize
     row(i + 1, end, |j| overlap_by(apart, covered, a, i, j))
 }
 
-// Kind 3 for user u and exclusion record e.
-fn holds_both(users: &[u8], roles: u8, x: &[u8], u: usize, e: usize) -> bool
-    requires { (roles ≤ 8) × (3 * e + 3 ≤ length x.now) }
-    ensures { result ≡ holds_both roles users.now x.now u e }
+// Kind 3 for exclusion record e and a user who may act in this set of roles.
+fn both_among(roles: u8, x: &[u8], e: usize) -> bool
+    requires { (exclusions_bad 8 16 x.now ≡ false) × (e < record_count exclusions x.now) }
+    ensures { result ≡ both_among (in_set roles) x.now e }
 {
     match Exclusion::read(&x[3 * e..3 * e + 3]) {
-        Exclusion::Roles(r, s) => {
-            codes::held_by(users, roles, u, r as usize)
-                && codes::held_by(users, roles, u, s as usize)
-        }
+        Exclusion::Roles(r, s) => sets::in_set(roles as u32, r) && sets::in_set(roles as u32, s),
         Exclusion::Permissions(..) => false,
     }
 }
 
-fn holds_row(users: &[u8], roles: u8, x: &[u8], u: usize) -> u64
-    requires { (roles ≤ 8) × (length x.now / 3 ≤ 64) }
-    ensures { (j : ℕ) → in_set result j ≡ (ltb j (length x.now / 3) && holds_both roles users.now x.now u j) }
+fn holds_row(roles: u8, x: &[u8]) -> u64
+    requires { (exclusions_bad 8 16 x.now ≡ false) × (record_count exclusions x.now ≤ 64) }
+    ensures { (j : ℕ) → in_set result j ≡ (ltb j (record_count exclusions x.now) && both_among (in_set roles) x.now j) }
 {
-    row(0, x.len() / 3, |e| holds_both(users, roles, x, u, e))
+    row(0, x.len() / 3, |e| both_among(roles, x, e))
 }
 
 // Inner: the conflicts of kind 1 of an accepted base, a row for each policy.
@@ -162,14 +160,15 @@ pub fn contradictions(base: &Base<'_>) -> Conflicts
     )
 }
 
-// Inner: the conflicts of kind 2 of an accepted base, a row for each policy.
-pub fn overlaps(base: &Base<'_>) -> Conflicts
+// Inner: the conflicts of kind 2 of an accepted base, by the juniors of each role, a row for each policy.
+pub fn overlaps(base: &Base<'_>, juniors: [u8; 8]) -> Conflicts
+    requires { Juniors (table_of base.now hierarchy) juniors }
     ensures kind { kind_number result.kind ≡ 2 }
     ensures firsts { result.firsts ≡ record_count policies (table_of base.now policies) }
     ensures rows { Overlaps base.now result.rows }
 {
     let a = base.policies();
-    let covered = covers::cover_sets(&weights::juniors_of_base(base), &a);
+    let covered = covers::cover_sets(&juniors, &a);
     let apart = covers::excluded_sets(base.part(Table::Exclusions));
     Conflicts::of(
         Kind::Overlap,
@@ -178,18 +177,13 @@ pub fn overlaps(base: &Base<'_>) -> Conflicts
     )
 }
 
-// Inner: the conflicts of kind 3 of an accepted base, a row for each user.
-pub fn holders(base: &Base<'_>) -> Conflicts
+// Inner: the conflicts of kind 3 of an accepted base, by the roles in which each user may act, a row for each user.
+pub fn holders(base: &Base<'_>, acting: &[u8; 24]) -> Conflicts
+    requires { ActingSets base.now acting.now }
     ensures kind { kind_number result.kind ≡ 3 }
     ensures firsts { result.firsts ≡ record_count users (table_of base.now users) }
     ensures rows { Holders base.now result.rows }
 {
-    let users = base.part(Table::Users);
     let x = base.part(Table::Exclusions);
-    let roles = base.role_count();
-    Conflicts::of(
-        Kind::Holder,
-        users.len() / 8,
-        |u| holds_row(users, roles, x, u),
-    )
+    Conflicts::of(Kind::Holder, base.user_count(), |u| holds_row(acting[u], x))
 }

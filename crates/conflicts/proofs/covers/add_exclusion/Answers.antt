@@ -9,7 +9,7 @@ use Rattle.conflicts.specs.declared.exclusions.Exclusion.TheVariants.{Roles, Per
 use Rattle.conflicts.specs.Conflicts.{excludes}
 use Rattle.conflicts.specs.Exclusions.{exclusion_of}
 use Rattle.conflicts.proofs.Excluding.{says_roles, says_permissions, kind_1}
-use Rattle.conflicts.proofs.Tables.{permissions_small}
+use Rattle.conflicts.proofs.Tables.{numbers_small}
 use Rattle.conflicts.proofs.covers.add_exclusion.Goals as goal
 
 module _ (x : List ℕ) where
@@ -25,7 +25,7 @@ module _ (x : List ℕ) where
     small : (p < 16) × (q < 16)
     small =
         let (_, first, second) = says_permissions x 0 says in
-        rw (first, second) (permissions_small x 0 fine there one)
+        rw (first, second) (numbers_small x 0 fine there (says_permissions x 0 says).0)
 
     -- t is in the set of s before the record, between the two pairs, and now
     both_pairs : (s t : ℕ) (was : Bool) {between now : Bool} → between ≡ (was || (eqb p s && eqb q t)) →

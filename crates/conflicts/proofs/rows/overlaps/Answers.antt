@@ -2,10 +2,8 @@
 use Rattle.std.proofs.Common.{ℕ, ◌≡◌, ◌/◌, List, length, rules}
 use Rattle.reader.specs.Tables.{hierarchy, policies, exclusions, table_of}
 use Rattle.reader.specs.Rules.{refusal_of}
-use Rattle.reader.proofs.Accepted.{accepted}
-use Rattle.reader.proofs.Frame.{roles_range, permissions_le}
 use Rattle.conflicts.specs.Rows.{Covers, Excluded, overlap_by, Rows, Overlaps}
-use Rattle.conflicts.proofs.Tables.{exclusions_wider}
+use Rattle.conflicts.proofs.Tables.{exclusions_small}
 use Rattle.conflicts.proofs.Found.{overlaps_found}
 use Rattle.conflicts.proofs.rows.overlaps.Goals as goal
 
@@ -17,10 +15,7 @@ found b ok a_is x_is covers excluded are =
     overlaps_found b ok _ _ _ (rw a_is at covers) (rw x_is at excluded) (rw a_is at are)
 
 pub excluded_sets-apart-requires : goal.excluded_sets-apart-requires
-excluded_sets-apart-requires c =
-    let f = accepted _ c.part.ensures.accepted in
-    let roles = (roles_range _ f.frame).1 in
-    rw c.part.ensures.table (exclusions_wider _ _ 8 16 _ roles (permissions_le _ f.frame) f.exclusions)
+excluded_sets-apart-requires c = rw c.part.ensures.table (exclusions_small _ c.part.ensures.accepted)
 
 pub of-requires-clause-callable : goal.of-requires-clause-callable
 of-requires-clause-callable c = λ i l. let within = rw c.count.ensures.count.0 at l in search rules
@@ -30,5 +25,5 @@ returns-clause-rows c =
     let a = c.policies-a.ensures in
     let (is, few) = c.count.ensures.count in
     found _ a.accepted a.policies c.part.ensures.table
-    (c.cover_sets-covered.ensures _ c.juniors_of_base.ensures)
+    (c.cover_sets-covered.ensures _ c.requires)
     c.excluded_sets-apart.ensures (record { row = λ i j l. let row = c.of.ensures.rows i (rw is l) in search rules })
