@@ -7,7 +7,7 @@ use crate::refusal::{refuse_if, Refusal};
 use crate::roles::Role;
 use crate::seniority::Seniority;
 
-/// Who may act in which role of a base: for asking about several entries.
+/// Who may act in which role of a base: for asking more than once.
 pub struct Acting<'a> {
     base: &'a Base,
     seniority: Seniority,
@@ -68,14 +68,15 @@ impl<'a> Acting<'a> {
         roles.find(|&held| self.base.holds(user, held) && self.opens(held, role))
     }
 
-    /// Whether who holds a role may act in another one: it is junior to it.
-    fn opens(&self, held: Role, role: Role) -> bool {
+    /// Whether who holds a role may act in another: the same, or one junior to it.
+    pub fn opens(&self, held: Role, role: Role) -> bool {
         let is_senior = |one, other| self.seniority.is_senior(one, other);
-        match self.reading {
+        let below = match self.reading {
             Reading::HeldAlone => false,
             Reading::SeniorsToo => is_senior(held, role) || is_senior(role, held),
             _ => is_senior(held, role),
-        }
+        };
+        held == role || below
     }
 }
 

@@ -113,19 +113,27 @@ impl Cover {
     }
 }
 
-/// Kind 3: a user and an exclusion of kind 0 of which the user holds both
-/// roles, by the parameter alone.
+/// Kind 3: a user who may act in both roles of an exclusion of kind 0. Users' days
+/// play no part.
 fn role_conflicts(reading: Reading, base: &Base) -> Vec<Conflict> {
     let acting = Acting::by(reading, base);
-    let has = |user, role| match reading {
-        Reading::ActedInAsHeld => acting.may_act(user, role),
-        _ => base.holds(user, role),
+    let stands = |user, a, b| {
+        let both = acting.may_act(user, a) && acting.may_act(user, b);
+        let holds = |role| base.holds(user, role);
+        let opens_both = |held| holds(held) && acting.opens(held, a) && acting.opens(held, b);
+        both && match reading {
+            Reading::FirstHeld => holds(a),
+            Reading::SecondHeld => holds(b),
+            Reading::OneHeld => holds(a) || holds(b),
+            Reading::OneRoleForBoth => (0..base.roles).any(opens_both),
+            _ => true,
+        }
     };
     let mut list = Vec::new();
     for user in 0..base.users.len() as u8 {
         for (record, exclusion) in (0..).zip(&base.exclusions) {
-            if let Exclusion::Roles(a, b) = exclusion {
-                if has(user, *a) && has(user, *b) {
+            if let Exclusion::Roles(a, b) = *exclusion {
+                if stands(user, a, b) {
                     list.push([3, user, record]);
                 }
             }
@@ -140,6 +148,7 @@ mod tests {
     use crate::operator::Comparison;
     use crate::records::Parameter;
     use crate::samples::*;
+    use crate::seniority::chains;
 
     /// Three roles in a chain and two permissions that exclude each other.
     fn exclusive(policies: &[(Role, u8, bool)]) -> Base {
@@ -243,8 +252,16 @@ mod tests {
         assert_eq!(conflict_list(&base), [[2, 0, 1]]);
         base.exclusions.push(Exclusion::Permissions(0, 1));
         assert_eq!(conflict_list(&base), [[2, 0, 1]]);
+    }
+
+    /// User 0 acts in both roles.
+    #[test]
+    fn an_exclusion_is_of_roles_or_of_permissions() {
+        let mut base = exclusive(&[(1, 1, false), (1, 0, false)]);
         base.exclusions = vec![Exclusion::Roles(0, 1)];
-        assert!(conflict_list(&base).is_empty());
+        assert_eq!(conflict_list(&base), [[3, 0, 0]]);
+        base.exclusions = vec![Exclusion::Permissions(0, 1)];
+        assert_eq!(conflict_list(&base), [[2, 0, 1]]);
     }
 
     #[test]
@@ -272,29 +289,107 @@ mod tests {
         assert_eq!(conflict_list(&base), [[2, 0, 1]]);
     }
 
+    /// The small shop with these exclusions. Role 0 is over 1 over 2; user 0 holds role
+    /// 0, user 1 role 1, users 2 and 3 role 2.
+    fn excluding(exclusions: &[Exclusion]) -> Base {
+        let mut base = small_shop();
+        base.exclusions = exclusions.to_vec();
+        base
+    }
+
+    /// User 0 acts in roles 1 and 2, users 1 and 3 in all three, user 2 in none.
     #[test]
     fn kind_3_names_the_record_in_the_whole_table() {
         let mut base = exclusive(&[]);
         let roles = Exclusion::Roles(0, 2);
         base.exclusions = vec![Exclusion::Permissions(0, 1), roles.clone(), roles];
-        base.users = vec![user(&[0, 1]), user(&[0, 1, 2]), user(&[]), user(&[0, 2])];
+        base.users = vec![user(&[1]), user(&[0]), user(&[]), user(&[0, 2])];
         let expected = [[3, 1, 1], [3, 1, 2], [3, 3, 1], [3, 3, 2]];
         assert_eq!(conflict_list(&base), expected);
     }
 
     #[test]
-    fn kind_3_does_not_look_at_the_hierarchy() {
-        let mut base = small_shop();
-        base.exclusions = vec![Exclusion::Roles(0, 1)];
-        assert!(conflict_list(&base).is_empty());
+    fn kind_3_goes_down_the_hierarchy() {
+        let manager = excluding(&[Exclusion::Roles(0, 1)]);
+        assert_eq!(conflict_list(&manager), [[3, 0, 0]]);
+        let over_both = excluding(&[Exclusion::Roles(1, 2)]);
+        assert_eq!(conflict_list(&over_both), [[3, 0, 0], [3, 1, 0]]);
+        let down_a_chain = excluding(&[Exclusion::Roles(0, 2)]);
+        assert_eq!(conflict_list(&down_a_chain), [[3, 0, 0]]);
     }
 
+    /// The clerk, who holds role 2, is below both others.
+    #[test]
+    fn kind_3_does_not_go_up() {
+        let mut base = excluding(&[Exclusion::Roles(0, 1), Exclusion::Roles(1, 2)]);
+        base.users = vec![user(&[2]), user(&[1]), user(&[1, 2])];
+        assert_eq!(conflict_list(&base), [[3, 1, 1], [3, 2, 1]]);
+    }
+
+    #[test]
+    fn without_records_kind_3_is_by_roles_held() {
+        let mut base = excluding(&[Exclusion::Roles(0, 1), Exclusion::Roles(0, 2)]);
+        base.hierarchy = vec![];
+        assert!(conflict_list(&base).is_empty());
+        base.users.push(user(&[0, 2]));
+        assert_eq!(conflict_list(&base), [[3, 4, 1]]);
+    }
+
+    /// 0 over 2, 1 over 3. Users 0 and 1 act in one of roles 2 and 3 alone, user 2
+    /// in both, each through another role held. User 3 holds one of them and acts
+    /// in the other.
+    #[test]
+    fn kind_3_may_come_from_two_roles_held() {
+        let mut base = empty_base(4);
+        base.hierarchy = vec![edge(0, 2), edge(1, 3)];
+        base.users = vec![user(&[0]), user(&[1]), user(&[0, 1]), user(&[2, 1])];
+        base.exclusions = vec![Exclusion::Roles(2, 3)];
+        assert_eq!(conflict_list(&base), [[3, 2, 0], [3, 3, 0]]);
+    }
+
+    #[test]
+    fn kind_3_does_not_look_at_days() {
+        let mut base = excluding(&[Exclusion::Roles(1, 2)]);
+        for (first_day, last_day) in [(0, 0), (u16::MAX, u16::MAX), (300, 301)] {
+            for user in &mut base.users {
+                (user.first_day, user.last_day) = (first_day, last_day);
+            }
+            assert_eq!(conflict_list(&base), [[3, 0, 0], [3, 1, 0]]);
+        }
+    }
+
+    #[test]
+    fn kind_3_is_where_some_chain_leads_to_each_side() {
+        let mut draws = Draws::new(10);
+        for _ in 0..300 {
+            let mut base = random_base(&mut draws, 6);
+            let pairs = (1..base.roles).flat_map(|b| (0..b).map(move |a| (a, b)));
+            let pairs: Vec<(Role, Role)> = pairs.collect();
+            base.policies.clear();
+            base.exclusions = pairs.iter().map(|&(a, b)| Exclusion::Roles(a, b)).collect();
+            let mut expected = Vec::new();
+            for user in 0..base.users.len() as u8 {
+                let reaches = |role| {
+                    let mut held = (0..8).filter(|&held| base.holds(user, held));
+                    held.any(|held| held == role || chains(&base.hierarchy, held, role) > 0)
+                };
+                for (record, &(a, b)) in (0..).zip(&pairs) {
+                    if reaches(a) && reaches(b) {
+                        expected.push([3, user, record]);
+                    }
+                }
+            }
+            assert_eq!(conflict_list(&base), expected);
+        }
+    }
+
+    /// User 0 holds role 0 and acts in 1; user 4 holds both.
     #[test]
     fn kinds_come_in_order() {
         let mut base = exclusive(&[(1, 0, true), (1, 1, true), (1, 0, false)]);
         base.exclusions.push(Exclusion::Roles(0, 1));
         base.users.push(user(&[0, 1]));
-        let expected = [[1, 0, 2], [2, 0, 1], [2, 1, 2], [3, 4, 1]];
+        let expected = [[1, 0, 2], [2, 0, 1], [2, 1, 2], [3, 0, 1], [3, 4, 1]];
         assert_eq!(conflict_list(&base), expected);
     }
 
@@ -311,9 +406,51 @@ mod tests {
         assert_eq!(counts(Reading::RelatedToItself, &no_clause), [0, 1]);
         let senior = exclusive(&[(0, 0, false), (2, 1, false)]);
         assert_eq!(counts(Reading::SeniorsCovered, &senior), [0, 1]);
-        let mut manager = small_shop();
-        manager.exclusions = vec![Exclusion::Roles(0, 2), Exclusion::Roles(1, 2)];
-        assert_eq!(counts(Reading::ActedInAsHeld, &manager), [0, 3]);
+    }
+
+    /// 0 over 1 over 2, and an exclusion of each two. User 0 holds role 0, user 1
+    /// role 1, user 2 roles 0 and 2, user 3 role 2.
+    #[test]
+    fn the_wrong_readings_of_kind_3_have_other_lists() {
+        let mut base = excluding(&[(0, 1), (0, 2), (1, 2)].map(|(a, b)| Exclusion::Roles(a, b)));
+        base.users = vec![user(&[0]), user(&[1]), user(&[0, 2]), user(&[2])];
+        let by = |reading| {
+            let list = list_by(reading, &base).into_iter();
+            list.map(|[_, user, record]| (user, record))
+                .collect::<Vec<_>>()
+        };
+        let of_users_0_and_1 = [(0, 0), (0, 1), (0, 2), (1, 2)];
+        let of_user_2 = [(2, 0), (2, 1), (2, 2)];
+        let paper = [&of_users_0_and_1[..], &of_user_2].concat();
+        assert_eq!(by(Reading::Paper), paper);
+        assert_eq!(by(Reading::HeldAlone), [(2, 1)]);
+        let direct = [&[(0, 0), (1, 2)][..], &of_user_2].concat();
+        assert_eq!(by(Reading::DirectJuniors), direct);
+        assert_eq!(by(Reading::SeniorsToo).len(), 12);
+        let first_held = [(0, 0), (0, 1), (1, 2), (2, 0), (2, 1)];
+        assert_eq!(by(Reading::FirstHeld), first_held);
+        assert_eq!(by(Reading::SecondHeld), [(2, 1), (2, 2)]);
+        let one_held = [&first_held[..], &[(2, 2)]].concat();
+        assert_eq!(by(Reading::OneHeld), one_held);
+    }
+
+    /// 0 over 2 and 3, 1 over 4. User 0 holds role 0, user 1 role 1, user 2 both, user 3
+    /// roles 1 and 2, user 4 roles 2 and 3.
+    #[test]
+    fn by_a_wrong_reading_one_role_held_opens_both() {
+        let mut base = empty_base(5);
+        base.hierarchy = vec![edge(0, 2), edge(0, 3), edge(1, 4)];
+        base.users = [&[0][..], &[1], &[0, 1], &[1, 2], &[2, 3]]
+            .map(user)
+            .to_vec();
+        let pairs = [(0, 1), (0, 2), (2, 3), (2, 4)];
+        base.exclusions = pairs.map(|(a, b)| Exclusion::Roles(a, b)).to_vec();
+        let through_one = [[3, 0, 1], [3, 0, 2], [3, 2, 1], [3, 2, 2]];
+        assert_eq!(list_by(Reading::OneRoleForBoth, &base), through_one);
+        let through_two = [[3, 2, 0], [3, 2, 3], [3, 3, 3], [3, 4, 2]];
+        let mut all = [through_one, through_two].concat();
+        all.sort();
+        assert_eq!(conflict_list(&base), all);
     }
 
     #[test]

@@ -1,10 +1,7 @@
 //! How the rules are read.
 
-/// The paper's reading with the requests', or a wrong one: those that the paper
-/// warns of, and some of the conflict list, of sheets, of who may act as what,
-/// of what a changed weight can shift, of which policy goes before, of what a
-/// withdrawal leaves, of how many codes are tried and of users' days. A test can
-/// take a wrong one to show that the comparison notices it.
+/// The paper's reading with the requests', or a wrong one, which a test can take to
+/// show that the comparison notices it.
 #[derive(Clone, Copy, Debug, Default, PartialEq, Eq)]
 pub enum Reading {
     #[default]
@@ -29,6 +26,18 @@ pub enum Reading {
     RelatedToItself,
     /// A policy of type 0 covers the seniors of its role too.
     SeniorsCovered,
+    /// A conflict of kind 3 needs the exclusion's first role held; the user may
+    /// act in the second.
+    FirstHeld,
+    /// A conflict of kind 3 needs the exclusion's second role held; the user may
+    /// act in the first.
+    SecondHeld,
+    /// A conflict of kind 3 needs one of the two roles held, whichever; the user
+    /// may act in the other.
+    OneHeld,
+    /// A conflict of kind 3 needs one role held through which the user may act in
+    /// both.
+    OneRoleForBoth,
     /// A refused opening gives a sheet for the permission asked for.
     PermissionKept,
     /// Signing checks that the sheet's permission is there.
@@ -50,8 +59,6 @@ pub enum Reading {
     SeniorInSet,
     /// An entry weighs what the role held, through which the user acts, weighs.
     SeniorsWeight,
-    /// A conflict of kind 3 is a user who may act in both roles.
-    ActedInAsHeld,
     /// A changed weight reaches the juniors of the policy's role, in place of
     /// its seniors.
     JuniorsReached,
@@ -151,11 +158,14 @@ impl Reading {
     ];
 
     /// Wrong readings that only the conflict list shows.
-    pub const WRONG_IN_LISTS: [Reading; 4] = [
+    pub const WRONG_IN_LISTS: [Reading; 7] = [
         Reading::WeightAndType,
         Reading::RelatedToItself,
         Reading::SeniorsCovered,
-        Reading::ActedInAsHeld,
+        Reading::FirstHeld,
+        Reading::SecondHeld,
+        Reading::OneHeld,
+        Reading::OneRoleForBoth,
     ];
 
     /// Wrong readings that only sheets show.

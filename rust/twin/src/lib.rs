@@ -411,6 +411,44 @@ mod tests {
         group
     }
 
+    /// The base with exclusions of eight roles and of four permissions.
+    fn with_exclusions(draws: &mut Draws, mut base: Vec<u8>) -> Vec<u8> {
+        let count = draws.below(33);
+        let end = base.len() - 36;
+        base[end + 26] = count as u8;
+        let exclusion = |draws: &mut Draws| {
+            let kind = draws.byte(0, 1);
+            let b = draws.byte(1, [7, 3][usize::from(kind)]);
+            [kind, draws.byte(0, b - 1), b]
+        };
+        let exclusions: Vec<u8> = (0..count).flat_map(|_| exclusion(draws)).collect();
+        base.splice(end..end, exclusions);
+        base
+    }
+
+    #[test]
+    fn a_list_is_the_models() {
+        let mut draws = Draws(11);
+        let mut kinds = [0; 4];
+        for _ in 0..500 {
+            let base = random_plan(&mut draws).bytes();
+            let base = with_exclusions(&mut draws, base);
+            let base = with_days(&mut draws, base);
+            let (mut by_twin, mut by_model) = ([7; 8_400], [7; 8_400]);
+            let answer = conflicts(&base, &mut by_twin);
+            assert_eq!(answer, model::conflicts(&base, &mut by_model));
+            assert_eq!((answer.refusal, by_twin), (0, by_model));
+            let list = by_twin.chunks_exact(3).take(answer.count as usize);
+            list.for_each(|conflict| kinds[usize::from(conflict[0])] += 1);
+            let room = 3 * answer.count as usize;
+            if let Some(less) = room.checked_sub(1) {
+                let short = conflicts(&base, &mut by_twin[..less]);
+                assert_eq!((short.refusal, short.count), (18, answer.count));
+            }
+        }
+        assert!(kinds[1..].iter().all(|&times| times > 500), "{kinds:?}");
+    }
+
     #[test]
     fn a_bound_is_the_models() {
         let mut draws = Draws(8);

@@ -1,6 +1,6 @@
 //! The conflicts as rows of bits, a row for each kind and first.
 
-use crate::acting::holds_role;
+use crate::acting::acting_roles;
 use crate::base::Base;
 use crate::related::{relations, slot, SLOTS};
 use crate::users::parameter_of;
@@ -15,7 +15,8 @@ pub fn all_rows(base: &Base) -> [u64; ROWS] {
         .iter()
         .fold(0, |set, policy| set | 1 << slot(policy[4]));
     let related = relations(base.contexts, names);
-    let covered = cover_sets(base);
+    let juniors = juniors(base.hierarchy);
+    let covered = cover_sets(policies, juniors);
     let apart = excluded_sets(base.exclusions);
     let mut rows = [0; ROWS];
     let (of_policies, of_users) = rows.split_at_mut(128);
@@ -31,8 +32,11 @@ pub fn all_rows(base: &Base) -> [u64; ROWS] {
             excluded >> (policies[j][1] & 15) & 1 == 1 && covered[i & 63] & covered[j & 63] != 0
         });
     }
-    for (user, row) in base.users.iter().zip(of_users) {
-        *row = holds_row(parameter_of(user), base.exclusions);
+    let excluding = Excluding::of(base.exclusions);
+    if excluding.all != 0 {
+        for (user, row) in base.users.iter().zip(of_users) {
+            *row = excluding.within(acting_roles(parameter_of(user), &juniors));
+        }
     }
     rows
 }
@@ -53,10 +57,9 @@ fn contradict(related: &[u32; SLOTS], one: &[u8; 8], other: &[u8; 8]) -> bool {
 }
 
 /// The roles that each policy covers.
-fn cover_sets(base: &Base) -> [u8; 64] {
-    let juniors = juniors(base.hierarchy);
+fn cover_sets(policies: &[[u8; 8]], juniors: [u8; 8]) -> [u8; 64] {
     let mut sets = [0; 64];
-    for (policy, set) in base.policies.iter().zip(&mut sets) {
+    for (policy, set) in policies.iter().zip(&mut sets) {
         let role = policy[0] & 7;
         *set = 1 << role;
         if policy[3] == 1 {
@@ -83,14 +86,32 @@ fn excluded_sets(exclusions: &[[u8; 3]]) -> [u32; 16] {
     sets
 }
 
-/// Kind 3: exclusions whose roles the user both holds.
-fn holds_row(parameter: u32, exclusions: &[[u8; 3]]) -> u64 {
-    let held = |role: u8| holds_role(parameter, usize::from(role & 7));
-    let both = |&[kind, a, b]: &[u8; 3]| kind == 0 && held(a) && held(b);
-    let exclusions = exclusions.iter().enumerate();
-    exclusions.fold(0, |row, (e, exclusion)| {
-        row | u64::from(both(exclusion)) << (e & 63)
-    })
+/// The exclusions of roles, as bits: all of them, and those of each role.
+struct Excluding {
+    all: u64,
+    of: [u64; 8],
+}
+
+impl Excluding {
+    fn of(exclusions: &[[u8; 3]]) -> Excluding {
+        let (mut all, mut of) = (0, [0; 8]);
+        for (e, &[kind, a, b]) in exclusions.iter().enumerate() {
+            let bit = u64::from(kind == 0) << (e & 63);
+            all |= bit;
+            of[usize::from(a & 7)] |= bit;
+            of[usize::from(b & 7)] |= bit;
+        }
+        Excluding { all, of }
+    }
+
+    /// Kind 3: the exclusions with both roles in the set, which are all but those of a
+    /// role outside it.
+    #[inline(always)]
+    fn within(&self, roles: u8) -> u64 {
+        let outside = |(role, &of): (usize, &u64)| of * u64::from(!roles >> role & 1);
+        let of = self.of.iter().enumerate();
+        self.all & !of.fold(0, |outer, role| outer | outside(role))
+    }
 }
 
 /// How many records the rows have.
@@ -108,6 +129,23 @@ pub fn write_rows(rows: &[u64; ROWS], out: &mut [[u8; 3]]) {
             let Some(place) = places.next() else { return };
             *place = [kind as u8, first as u8, rest.trailing_zeros() as u8];
             rest &= rest - 1;
+        }
+    }
+}
+
+#[cfg(test)]
+mod tests {
+    use super::*;
+
+    /// Records 0 and 3 are of roles 0 and 2, 1 of permissions, 2 of roles 1 and 7.
+    #[test]
+    fn an_exclusion_stands_where_both_roles_are_in_the_set() {
+        let excluding = Excluding::of(&[[0, 0, 2], [1, 0, 2], [0, 1, 7], [0, 0, 2]]);
+        for roles in 0..=255 {
+            let has = |role: u8| roles >> role & 1 == 1;
+            let even = if has(0) && has(2) { 0b1001 } else { 0 };
+            let odd = if has(1) && has(7) { 0b0100 } else { 0 };
+            assert_eq!(excluding.within(roles), even | odd);
         }
     }
 }
