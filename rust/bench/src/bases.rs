@@ -190,6 +190,19 @@ pub fn most_conflicts() -> BaseBuilder {
     }
 }
 
+/// The same where every user holds role 0 alone, and acts in both roles of each
+/// exclusion as their senior.
+pub fn conflicts_from_above() -> BaseBuilder {
+    let mut base = most_conflicts();
+    base.users = users(&[1; 24]);
+    let all = base.exclusions.iter_mut();
+    let of_roles = all.filter(|exclusion| exclusion.kind == 0);
+    for (exclusion, a) in of_roles.zip((1..7).cycle()) {
+        (exclusion.a, exclusion.b) = (a, 7);
+    }
+    base
+}
+
 /// The policies name all context numbers, and no two of them are related: each
 /// has two clauses, and each clause holds in one zone of its own.
 pub fn many_contexts() -> BaseBuilder {
@@ -202,13 +215,6 @@ pub fn many_contexts() -> BaseBuilder {
             .collect(),
         ..full_base()
     }
-}
-
-fn edges(pairs: &[(u8, u8)]) -> Vec<Edge> {
-    pairs
-        .iter()
-        .map(|&(senior, junior)| Edge { senior, junior })
-        .collect()
 }
 
 /// Users of all days by the sets of their roles.
@@ -232,6 +238,7 @@ mod tests {
             rivals(),
             overrides(),
             most_conflicts(),
+            conflicts_from_above(),
             many_contexts(),
         ];
         for base in bases {
@@ -285,8 +292,19 @@ mod tests {
     }
 
     #[test]
-    fn it_has_2688_conflicts() {
-        let list = model::conflicts(&most_conflicts().bytes(), &mut []);
-        assert_eq!((list.refusal, list.count), (18, 2_688));
+    fn they_have_2688_conflicts() {
+        for base in [most_conflicts(), conflicts_from_above()] {
+            let list = model::conflicts(&base.bytes(), &mut []);
+            assert_eq!((list.refusal, list.count), (18, 2_688));
+        }
+    }
+
+    /// Without the H records the 744 conflicts of kind 3 are gone.
+    #[test]
+    fn nobody_holds_both_roles_from_above() {
+        let mut base = conflicts_from_above();
+        base.hierarchy.clear();
+        let list = model::conflicts(&base.bytes(), &mut []);
+        assert_eq!((list.refusal, list.count), (18, 2_688 - 744));
     }
 }

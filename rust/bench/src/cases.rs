@@ -226,6 +226,7 @@ pub fn cases() -> Vec<Case> {
         ("small shop", small),
         ("typical shop", typical),
         ("most records", most_conflicts().bytes()),
+        ("from above", conflicts_from_above().bytes()),
         ("contexts", many_contexts().bytes()),
     ];
     cases.extend(conflicts.map(|(name, base)| {

@@ -4,6 +4,10 @@ use model::{Base, Context, Reading};
 
 use crate::shown::{self, RECORD};
 
+/// How many H records can lead from a role held to one acted in: 0 where they are the
+/// same, and up to seven.
+pub const RECORDS: [u8; 8] = [0, 1, 2, 3, 4, 5, 6, 7];
+
 /// The fewest H records of a chain from a role that the user holds to the one
 /// acted in: 0 if the user holds it, nothing if no chain leads to it.
 pub fn records_down(base: &Base, [user, role]: [u8; 2]) -> Option<u8> {

@@ -67,11 +67,23 @@ pub struct Edge {
     pub junior: u8,
 }
 
+impl Edge {
+    pub fn new(senior: u8, junior: u8) -> Edge {
+        Edge { senior, junior }
+    }
+}
+
 impl Record for Edge {
     fn write(&self, image: &mut Image) {
         image.byte(self.senior);
         image.byte(self.junior);
     }
+}
+
+/// H records: senior, junior.
+pub fn edges(pairs: &[(u8, u8)]) -> Vec<Edge> {
+    let pairs = pairs.iter();
+    pairs.map(|&(a, b)| Edge::new(a, b)).collect()
 }
 
 /// A U record.

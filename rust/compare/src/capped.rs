@@ -5,7 +5,7 @@
 use crate::builder::*;
 use crate::days::give_days;
 use crate::random::Random;
-use crate::valid::{rising_pair, times};
+use crate::valid::{random_edge, times};
 
 /// A random base of so many roles that passes the check. Its policies have no
 /// context.
@@ -19,8 +19,7 @@ pub fn capped_base(random: &mut Random, roles: u8) -> BaseBuilder {
     give_days(random, &mut base.users);
     if roles > 1 {
         base.hierarchy = times(random.pick(&[0, 0, 1, 3, 12]), || {
-            let (senior, junior) = rising_pair(random, roles);
-            Edge { senior, junior }
+            random_edge(random, roles)
         });
     }
     for permission in 0..permissions {

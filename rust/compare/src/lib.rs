@@ -11,6 +11,7 @@ pub mod clashing;
 pub mod damage;
 pub mod days;
 mod decisions;
+pub mod excluded;
 #[cfg(test)]
 mod kinds;
 pub mod lent;

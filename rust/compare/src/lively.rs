@@ -3,7 +3,7 @@
 use crate::builder::*;
 use crate::days::give_days;
 use crate::random::Random;
-use crate::valid::{random_exclusion, random_permission, rising_pair, times};
+use crate::valid::{random_edge, random_exclusion, random_permission, times};
 
 /// A random base with one to `most_users` users that passes the check. In half
 /// of them users hold any roles, in the others only the first ones, where the
@@ -35,7 +35,7 @@ pub fn full_base(random: &mut Random) -> BaseBuilder {
     let permissions = LIMITS[2] as u8;
     let numbers = context_numbers(random);
     let mut base = BaseBuilder::new(roles);
-    base.hierarchy = times(LIMITS[0], || edge(rising_pair(random, roles)));
+    base.hierarchy = times(LIMITS[0], || random_edge(random, roles));
     base.users = times(LIMITS[1], || user(random, roles));
     give_days(random, &mut base.users);
     base.permissions = times(LIMITS[2], || random_permission(random));
@@ -61,7 +61,7 @@ pub fn heavy_base(random: &mut Random) -> BaseBuilder {
     let lightest = random.between(3, 5);
     let heavy_role = |random: &mut Random| CODES[random.pick(&[0, 0, 0, 1, 2])];
     let mut base = BaseBuilder::new(8).with_permissions(1);
-    base.hierarchy = (1..8).map(|junior| edge((junior - 1, junior))).collect();
+    base.hierarchy = (1..8).map(|junior| Edge::new(junior - 1, junior)).collect();
     base.users = times(8, || User::always(heavy_role(random)));
     give_days(random, &mut base.users);
     base.group_clauses = vec![GroupClause::new(0, &[heavy_condition(random)])];
@@ -78,24 +78,20 @@ fn heavy_condition(random: &mut Random) -> GroupCondition {
     (1, random.between(0, 5), value)
 }
 
-fn edge((senior, junior): (u8, u8)) -> Edge {
-    Edge { senior, junior }
-}
-
 /// No records, a chain, a tree or a lattice of roles, in any order.
 fn hierarchy(random: &mut Random, roles: u8) -> Vec<Edge> {
     let mut records: Vec<Edge> = match random.below(6) {
         0 => vec![],
         1 => (1..roles)
-            .map(|junior| edge((junior - 1, junior)))
+            .map(|junior| Edge::new(junior - 1, junior))
             .collect(),
         2 => (1..roles)
-            .map(|junior| edge((random.between(0, junior - 1), junior)))
+            .map(|junior| Edge::new(random.between(0, junior - 1), junior))
             .collect(),
         _ if roles < 2 => vec![],
         _ => {
             let count = random.below(LIMITS[0] + 1);
-            times(count, || edge(rising_pair(random, roles)))
+            times(count, || random_edge(random, roles))
         }
     };
     random.shuffle(&mut records);

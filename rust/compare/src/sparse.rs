@@ -7,7 +7,7 @@ use crate::builder::*;
 use crate::days::give_days;
 use crate::questions::{at_minute, sound_group};
 use crate::random::Random;
-use crate::valid::{rising_pair, times};
+use crate::valid::{random_edge, times};
 
 /// A random base that passes the check, with six to `most_users` users. Its
 /// policies have no context, and its clauses are made for users of all days.
@@ -18,10 +18,7 @@ pub fn sparse_base(random: &mut Random, most_users: usize) -> BaseBuilder {
     let held = random.pick(&[1, 2, 2, 3, 4]);
     let mut base = BaseBuilder::new(roles).with_permissions(permissions.into());
     base.users = times(users, || user(random, roles, held));
-    base.hierarchy = times(random.below(8), || {
-        let (senior, junior) = rising_pair(random, roles);
-        Edge { senior, junior }
-    });
+    base.hierarchy = times(random.below(8), || random_edge(random, roles));
     for permission in 0..permissions {
         base.policies.extend(policies(random, roles, permission));
     }

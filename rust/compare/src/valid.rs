@@ -59,9 +59,9 @@ pub(crate) fn times<T>(count: usize, make: impl FnMut() -> T) -> Vec<T> {
     std::iter::repeat_with(make).take(count).collect()
 }
 
-fn random_edge(random: &mut Random, roles: u8) -> Edge {
+pub(crate) fn random_edge(random: &mut Random, roles: u8) -> Edge {
     let (senior, junior) = rising_pair(random, roles);
-    Edge { senior, junior }
+    Edge::new(senior, junior)
 }
 
 /// Two different numbers below the end, the smaller first.

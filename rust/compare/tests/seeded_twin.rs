@@ -101,15 +101,15 @@ fn compare_sheets(base: &[u8], call: SheetCall, by_library: &mut Lent) {
 }
 
 fn sound_base(random: &mut Random) -> BaseBuilder {
-    match random.below(16) {
+    match random.below(18) {
         0 => random_base(random, Size::Small),
         1 => random_base(random, Size::Any),
         2 => full_base(random),
         3 => heavy_base(random),
         4..=6 => sparse_base(random, 24),
-        7 => clashing_base(random),
-        8 => rival_base(random, 24),
-        9..=12 => {
+        7..=9 => clashing_base(random),
+        10 => rival_base(random, 24),
+        11..=14 => {
             let roles = random.between(1, 8);
             capped_base(random, roles)
         }

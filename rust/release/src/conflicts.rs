@@ -26,7 +26,8 @@ pub enum Conflict {
         /// The second policy's number.
         second: u8,
     },
-    /// Kind 3: a user who holds both roles of an exclusion, on whatever days.
+    /// Kind 3: a user who may act in both roles of an exclusion, on whatever days.
+    /// A user may act in the roles held and in their juniors.
     Roles {
         /// The user's number.
         user: u8,
@@ -162,6 +163,23 @@ mod tests {
         let expected = pairs.map(|(first, second)| Conflict::Policies { first, second });
         assert_eq!(conflicts(&three_conflicts()), Ok(expected.to_vec()));
         assert_eq!(conflict_count(&three_conflicts()), Ok(3));
+    }
+
+    /// The small shop with an exclusion of these roles before its trailer.
+    fn excluding(a: u8, b: u8) -> Vec<u8> {
+        let mut shop = SMALL_SHOP.to_vec();
+        shop.splice(94..94, [0, a, b]);
+        shop[94 + 3 + 26] = 1;
+        shop
+    }
+
+    /// The manager may act as buyer and as clerk, the buyer as clerk.
+    #[test]
+    fn who_may_act_in_both_roles_conflicts() {
+        let of = |user| Conflict::Roles { user, exclusion: 0 };
+        assert_eq!(conflicts(&excluding(0, 1)), Ok(vec![of(0)]));
+        assert_eq!(conflicts(&excluding(0, 2)), Ok(vec![of(0)]));
+        assert_eq!(conflicts(&excluding(1, 2)), Ok(vec![of(0), of(1)]));
     }
 
     #[test]

@@ -34,15 +34,19 @@ static uint32_t check_with(size_t place, uint8_t value) {
     return release_check(base, SHOP);
 }
 
-/* The check of the shop with an exclusion put before its trailer. */
-static uint32_t check_with_exclusion(uint8_t kind, uint8_t a, uint8_t b) {
-    uint8_t base[SHOP + 3];
+/* The shop with an exclusion put before its trailer. */
+static void with_exclusion(uint8_t *base, uint8_t kind, uint8_t a, uint8_t b) {
     memcpy(base, shop, SHOP - TRAILER);
     base[SHOP - TRAILER] = kind;
     base[SHOP - TRAILER + 1] = a;
     base[SHOP - TRAILER + 2] = b;
     memcpy(base + SHOP - TRAILER + 3, shop + SHOP - TRAILER, TRAILER);
     base[SHOP - TRAILER + 3 + 26] = 1;
+}
+
+static uint32_t check_with_exclusion(uint8_t kind, uint8_t a, uint8_t b) {
+    uint8_t base[SHOP + 3];
+    with_exclusion(base, kind, a, b);
     return release_check(base, sizeof base);
 }
 
@@ -250,6 +254,21 @@ static void conflicts(void) {
     answer = release_conflicts(base, SHOP, NULL, 0);
     expect("18", RELEASE_REFUSAL_CONFLICT_BUFFER, release_answer_refusal(answer));
     expect("18's count", 3, release_answer_count(answer));
+}
+
+/* Buyer and clerk exclude each other: the manager, whose last day is 0 here, may act
+   as both, and so may the buyer. */
+static void acting_conflicts(void) {
+    const uint8_t list[] = {3, 0, 0, 3, 1, 0, 7};
+    uint8_t base[SHOP + 3];
+    uint8_t out[2 * RELEASE_CONFLICT_BYTES + 1];
+    with_exclusion(base, 0, 1, 2);
+    base[4 + 6] = base[4 + 7] = 0;
+    memset(out, 7, sizeof out);
+    uint64_t answer = release_conflicts(base, sizeof base, out, sizeof out);
+    expect("conflicts", RELEASE_DONE, release_answer_refusal(answer));
+    expect("number of conflicts", 2, release_answer_count(answer));
+    expect("the list", 0, memcmp(out, list, sizeof list) != 0);
 }
 
 static uint64_t bound(uint32_t policy, uint32_t weight, const uint8_t *group, size_t length) {
@@ -609,6 +628,7 @@ int main(void) {
     reports();
     reports_by();
     conflicts();
+    acting_conflicts();
     bounds();
     parameters();
     openings();

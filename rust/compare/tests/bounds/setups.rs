@@ -12,14 +12,6 @@ pub const DIAMOND: [(u8, u8); 4] = [(0, 1), (0, 2), (1, 3), (2, 3)];
 /// The parameter of a user who holds all eight roles.
 pub const ALL_ROLES: u32 = 111_546_435;
 
-/// H records: senior, junior.
-pub fn edges(pairs: &[(u8, u8)]) -> Vec<Edge> {
-    let pairs = pairs.iter();
-    pairs
-        .map(|&(senior, junior)| Edge { senior, junior })
-        .collect()
-}
-
 /// Eight users who hold each of eight roles, with these H records. Policy r is
 /// role r's, of weight 1 and type 1, in every context.
 pub fn open_base(pairs: &[(u8, u8)]) -> BaseBuilder {

@@ -15,7 +15,7 @@ fn base(pairs: &[(u8, u8)], policies: &[Policy]) -> BaseBuilder {
     }
 }
 
-const CHAIN: [(u8, u8); 2] = [(0, 1), (1, 2)];
+const SHORT_CHAIN: [(u8, u8); 2] = [(0, 1), (1, 2)];
 
 /// A policy's role and type.
 type Covering = (u8, u8);
@@ -80,28 +80,28 @@ fn an_exclusion_of_roles_excludes_no_permissions() {
 
 #[test]
 fn a_junior_of_type_1_covers_its_seniors() {
-    expect(&CHAIN, (0, 0), (1, 1), true);
-    expect(&CHAIN, (1, 0), (2, 1), true);
-    expect(&CHAIN, (0, 1), (1, 1), true);
+    expect(&SHORT_CHAIN, (0, 0), (1, 1), true);
+    expect(&SHORT_CHAIN, (1, 0), (2, 1), true);
+    expect(&SHORT_CHAIN, (0, 1), (1, 1), true);
 }
 
 #[test]
 fn a_junior_of_type_0_covers_itself_alone() {
-    expect(&CHAIN, (0, 0), (1, 0), false);
-    expect(&CHAIN, (0, 1), (1, 0), false);
-    expect(&CHAIN, (1, 1), (2, 0), false);
+    expect(&SHORT_CHAIN, (0, 0), (1, 0), false);
+    expect(&SHORT_CHAIN, (0, 1), (1, 0), false);
+    expect(&SHORT_CHAIN, (1, 1), (2, 0), false);
 }
 
 #[test]
 fn coverage_goes_up_a_chain_and_not_down() {
-    expect(&CHAIN, (0, 0), (2, 1), true);
-    expect(&CHAIN, (0, 1), (2, 1), true);
-    expect(&CHAIN, (0, 1), (2, 0), false);
+    expect(&SHORT_CHAIN, (0, 0), (2, 1), true);
+    expect(&SHORT_CHAIN, (0, 1), (2, 1), true);
+    expect(&SHORT_CHAIN, (0, 1), (2, 0), false);
 }
 
 #[test]
 fn without_a_chain_nothing_is_covered_in_common() {
-    expect(&CHAIN, (2, 1), (3, 1), false);
+    expect(&SHORT_CHAIN, (2, 1), (3, 1), false);
     expect(&[], (0, 1), (1, 1), false);
 }
 
@@ -130,8 +130,7 @@ fn chains_are_found_in_any_order_of_the_records() {
 
 #[test]
 fn a_chain_of_eight_roles() {
-    let pairs: Vec<(u8, u8)> = (1..8).map(|junior| (junior - 1, junior)).collect();
-    let mut base = base(&pairs, &[policy(0, 0, 1, 0), policy(7, 2, 1, 1)]);
+    let mut base = base(&CHAIN, &[policy(0, 0, 1, 0), policy(7, 2, 1, 1)]);
     base.roles = 8;
     expect_list(&base, &[[2, 0, 1]]);
     base.hierarchy.remove(3);

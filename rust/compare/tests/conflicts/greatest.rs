@@ -34,6 +34,27 @@ fn all_768_of_kind_3() {
     expect_list(&users_and_records(24, 32), &all_pairs(24, 32));
 }
 
+/// Every user holds role 0 alone and acts in the seven roles behind it. The
+/// exclusions are of each two of the seven, 21, and of eleven of them once more. H
+/// has a chain, or is full, with a record from each role to each behind it.
+#[test]
+fn all_768_of_kind_3_through_role_0() {
+    let behind = each_two().into_iter().filter(|&(a, _)| a != 0);
+    let excluded: Vec<(u8, u8)> = behind.cycle().take(32).collect();
+    assert_eq!(each_two().len(), 28);
+    for pairs in [CHAIN.to_vec(), each_two()] {
+        let mut base = BaseBuilder {
+            hierarchy: edges(&pairs),
+            users: users(&[3; 24]),
+            exclusions: role_exclusions(&excluded),
+            ..BaseBuilder::new(8)
+        };
+        expect_list(&base, &all_pairs(24, 32));
+        base.hierarchy.clear();
+        expect_list(&base, &[]);
+    }
+}
+
 /// 64 policies of one role whose permission, weight and type repeat after 20:
 /// permission 0 takes the first ten, permission 1 the others. Record 7 excludes
 /// the permissions, and 24 users hold the two roles of the other 31.
@@ -75,6 +96,19 @@ fn the_greatest_number() {
     assert_eq!(list[1_943..1_945], [[2, 59, 63], [3, 0, 0]]);
     assert_eq!(list[2_687], [3, 23, 31]);
     expect_list(&greatest(), &list);
+}
+
+/// The users hold role 0 alone, which is over role 1. Without that H record none of
+/// kind 3 is left.
+#[test]
+fn the_greatest_number_through_role_0() {
+    let list = greatest_list();
+    let mut base = greatest();
+    base.users = users(&[3; 24]);
+    base.hierarchy = edges(&[(0, 1)]);
+    expect_list(&base, &list);
+    base.hierarchy.clear();
+    expect_list(&base, &list[..1_944]);
 }
 
 /// Lengths whose low bytes alone would suffice, or wouldn't.

@@ -3,11 +3,13 @@
 use crate::setups::*;
 use compare::builder::*;
 
-/// Of the policies 0 and 3 are for permission 1, 1, 2 and 4 for permission 0.
-/// Policies 1 and 2 are alike.
+/// Policies 0 and 3 are for permission 1, the others for permission 0; 1 and 2 are
+/// alike. Role 0 is over role 1: user 0 holds both, user 1 role 0, user 2 all three
+/// roles, user 3 role 1.
 fn mixed() -> BaseBuilder {
     BaseBuilder {
-        users: users(&[15, 3, 105]),
+        hierarchy: edges(&[(0, 1)]),
+        users: users(&[15, 3, 105, 5]),
         policies: vec![
             policy(1, 1, 1, 0),
             policy(1, 0, 1, 0),
@@ -33,6 +35,7 @@ fn by_kind_then_first_then_second() {
         [2, 2, 3],
         [2, 3, 4],
         [3, 0, 0],
+        [3, 1, 0],
         [3, 2, 0],
         [3, 2, 2],
     ];
@@ -50,13 +53,13 @@ fn without_exclusions_kind_1_is_left() {
 fn without_policies_kind_3_is_left() {
     let mut base = mixed();
     base.policies = vec![];
-    expect_list(&base, &[[3, 0, 0], [3, 2, 0], [3, 2, 2]]);
+    expect_list(&base, &[[3, 0, 0], [3, 1, 0], [3, 2, 0], [3, 2, 2]]);
 }
 
 #[test]
 fn in_policies_of_one_weight_and_type_kinds_2_and_3_are_left() {
     let mut base = mixed();
-    base.users.truncate(1);
+    base.users.truncate(2);
     base.policies = vec![policy(1, 1, 1, 0), policy(1, 0, 1, 0), policy(1, 0, 1, 0)];
-    expect_list(&base, &[[2, 0, 1], [2, 0, 2], [3, 0, 0]]);
+    expect_list(&base, &[[2, 0, 1], [2, 0, 2], [3, 0, 0], [3, 1, 0]]);
 }

@@ -3,6 +3,15 @@
 use compare::builder::*;
 use compare::expect_conflicts;
 
+/// 0 over 1 over 2 over .. over 7.
+pub const CHAIN: [(u8, u8); 7] = [(0, 1), (1, 2), (2, 3), (3, 4), (4, 5), (5, 6), (6, 7)];
+
+/// Each two of eight roles: 0 and 1, 0 and 2, 1 and 2, 0 and 3 and so on.
+pub fn each_two() -> Vec<(u8, u8)> {
+    let pairs = (1..8).flat_map(|b| (0..b).map(move |a| (a, b)));
+    pairs.collect()
+}
+
 /// Expects this list, with buffers too short, just long enough and longer.
 pub fn expect_list(base: &BaseBuilder, list: &[[u8; 3]]) {
     let whole = 3 * list.len();
@@ -29,20 +38,18 @@ pub fn policy(role: u8, permission: u8, weight: u8, inheritable: u8) -> Policy {
     Policy::new(role, permission, weight, inheritable, NO_CONTEXT)
 }
 
-/// H records: senior, junior.
-pub fn edges(pairs: &[(u8, u8)]) -> Vec<Edge> {
-    let pairs = pairs.iter();
-    pairs
-        .map(|&(senior, junior)| Edge { senior, junior })
-        .collect()
-}
-
 /// X records: kind, a, b.
 pub fn exclusions(records: &[(u8, u8, u8)]) -> Vec<Exclusion> {
     let records = records.iter();
     records
         .map(|&(kind, a, b)| Exclusion { kind, a, b })
         .collect()
+}
+
+/// X records of kind 0: a, b.
+pub fn role_exclusions(pairs: &[(u8, u8)]) -> Vec<Exclusion> {
+    let pairs = pairs.iter();
+    pairs.map(|&(a, b)| Exclusion { kind: 0, a, b }).collect()
 }
 
 /// Users by their parameters.

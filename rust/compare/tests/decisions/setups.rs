@@ -10,14 +10,6 @@ pub fn all_roles(roles: u8) -> User {
     User::always(CODES[..usize::from(roles)].iter().product())
 }
 
-/// H records: senior, junior.
-pub fn edges(pairs: &[(u8, u8)]) -> Vec<Edge> {
-    let pairs = pairs.iter();
-    pairs
-        .map(|&(senior, junior)| Edge { senior, junior })
-        .collect()
-}
-
 /// A clause of permission 0 that each group passes.
 pub fn any_group_passes() -> GroupClause {
     GroupClause::new(0, &[(0, 2, 1)])

@@ -1,15 +1,12 @@
 //! Refusal 4: H records.
 
-use compare::builder::{BaseBuilder, Edge};
+use compare::builder::{edges, BaseBuilder};
 use compare::expect_check;
 
 /// A base with these H records: senior, junior.
-fn with_edges(roles: u8, edges: &[(u8, u8)]) -> Vec<u8> {
+fn with_edges(roles: u8, pairs: &[(u8, u8)]) -> Vec<u8> {
     let mut base = BaseBuilder::new(roles);
-    let edges = edges.iter();
-    base.hierarchy = edges
-        .map(|&(senior, junior)| Edge { senior, junior })
-        .collect();
+    base.hierarchy = edges(pairs);
     base.bytes()
 }
 

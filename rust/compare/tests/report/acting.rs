@@ -6,10 +6,7 @@ use compare::shop::small_shop;
 
 /// The base with these H records: senior, junior.
 fn ranked(mut base: BaseBuilder, pairs: &[(u8, u8)]) -> BaseBuilder {
-    let pairs = pairs.iter();
-    base.hierarchy = pairs
-        .map(|&(senior, junior)| Edge { senior, junior })
-        .collect();
+    base.hierarchy = edges(pairs);
     base
 }
 

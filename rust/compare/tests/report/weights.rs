@@ -18,10 +18,7 @@ fn a_role_without_weight_is_not_acted_in() {
 #[test]
 fn a_senior_is_not_its_junior_in_the_set() {
     let mut base = base_of(&[1, 0], users(&[&[0], &[0]]), &[&[(3, 6, 0b10)]]);
-    base.hierarchy = vec![Edge {
-        senior: 0,
-        junior: 1,
-    }];
+    base.hierarchy = edges(&[(0, 1)]);
     expect_numbers(&base, &[0]);
 }
 
@@ -30,10 +27,7 @@ fn a_senior_is_not_its_junior_in_the_set() {
 fn a_role_acts_with_inherited_weight() {
     let seniors: &[GroupCondition] = &[(1, 2, 8), (3, 6, 0b01), (2, 4, 1)];
     let mut base = base_of(&[0, 4], users(&[&[0], &[0]]), &[seniors]);
-    base.hierarchy = vec![Edge {
-        senior: 0,
-        junior: 1,
-    }];
+    base.hierarchy = edges(&[(0, 1)]);
     expect_numbers(&base, &[0]);
     base.policies[0].inheritable = 1;
     expect_only_group(&base, &[[0, 0], [1, 0]]);
@@ -44,8 +38,7 @@ fn a_role_acts_with_inherited_weight() {
 #[test]
 fn a_junior_counts_once() {
     let mut base = base_of(&[1, 0, 0, 2], users(&[&[0], &[0], &[0]]), &[]);
-    let edge = |senior, junior| Edge { senior, junior };
-    base.hierarchy = vec![edge(0, 1), edge(0, 2), edge(1, 3), edge(2, 3)];
+    base.hierarchy = edges(&[(0, 1), (0, 2), (1, 3), (2, 3)]);
     base.policies[1].inheritable = 1;
     for (sum, k) in [(3, 1), (4, 2), (5, 2), (6, 2), (7, 3), (8, 3), (9, 3)] {
         base.group_clauses = vec![GroupClause::new(0, &[(1, 4, sum)])];

@@ -31,10 +31,9 @@ pub fn within(context: u8, policy: Policy) -> Policy {
 /// condition. Context 0 holds at minute 600 and not at minute 480; context 1 has
 /// no clause.
 pub fn with_policies(policies: &[Policy]) -> BaseBuilder {
-    let edge = |senior, junior| Edge { senior, junior };
     let parameter = CODES[..3].iter().product();
     BaseBuilder {
-        hierarchy: vec![edge(0, 1), edge(1, 2)],
+        hierarchy: edges(&[(0, 1), (1, 2)]),
         users: vec![User::always(parameter); 2],
         group_clauses: vec![GroupClause::new(0, &[(0, 2, 1)])],
         context_clauses: vec![ContextClause::new(0, &[(0, 2, 540), (0, 3, 1020)])],

@@ -37,7 +37,7 @@ fn compare_at(seen: &mut Seen, random: &mut Random, base: &[u8], length: usize) 
     seen.answer(Call::Conflicts, answer.refusal);
     if answer.refusal == 0 {
         let list = &lent.buffer()[..3 * answer.count as usize];
-        seen.conflicts(list);
+        seen.conflicts(base, list);
         expect_without_days(seen, base, list);
     }
 }

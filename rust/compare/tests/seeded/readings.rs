@@ -238,6 +238,7 @@ const OF_CONTEXTS: &[&str] = &[
 const OF_ACTING: &[&str] = &[
     "decisions",
     "reports",
+    "conflicts",
     "signings",
     "askings",
     "bounds",

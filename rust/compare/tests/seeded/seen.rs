@@ -1,12 +1,12 @@
-//! How often each answer, number of approvers, kind of conflict, number of
-//! signatures and bound was seen, how far below their roles users acted, what
-//! resolution lists decided, who withdrew, how many codes were tried, and what
-//! users' days brought about.
+//! What the comparison saw: how often each answer and number came up, how far below
+//! their roles users acted, and what came of exclusions, resolution lists,
+//! withdrawals, codes tried and users' days.
 
 use std::io::Write;
 use std::time::Duration;
 
-use compare::acting::Gain;
+use compare::acting::{Gain, RECORDS};
+use compare::excluded::Ways;
 use compare::tally::Tally;
 
 use crate::dated::Dated;
@@ -79,9 +79,6 @@ const ANSWERS_TO_MADE: &[u8] = &[0, 1, 2, 3, 4, 5, 6, 7, 8, 9, 10, 11, 12, 13, 1
 const NUMBERS: &[u8] = &[0, 1, 2, 3, 4, 5, 6];
 const KINDS: &[u8] = &[1, 2, 3];
 
-/// A chain of H records from a role held has at most so many, and 0 is none.
-const RECORDS: &[u8] = &[0, 1, 2, 3, 4, 5, 6, 7];
-
 /// Up to six entries times a difference of up to 4.
 const BOUNDS: &[u8] = &[0, 1, 2, 3, 4, 5, 6, 8, 9, 10, 12, 15, 16, 18, 20, 24];
 
@@ -113,6 +110,7 @@ pub struct Seen {
     bounds: Tally<25>,
     bounded: Tally<8>,
     reached: Tally<8>,
+    excluded: Ways,
     pub lists: Listed,
     pub withdrawn: Withdrawn,
     pub tried: Tried,
@@ -130,8 +128,9 @@ impl Seen {
         numbers.iter().for_each(|k| self.numbers.add(*k));
     }
 
-    /// Notes the conflicts in a list, 3 bytes each.
-    pub fn conflicts(&mut self, list: &[u8]) {
+    /// Notes the conflicts in a base's list, 3 bytes each.
+    pub fn conflicts(&mut self, base: &[u8], list: &[u8]) {
+        self.excluded.note(base, list);
         let kinds = list.iter().step_by(3);
         kinds.for_each(|kind| self.kinds.add(*kind));
         self.most_conflicts = self.most_conflicts.max(list.len() as u32 / 3);
@@ -238,6 +237,7 @@ impl Seen {
             .chain(bounds)
             .chain(acting)
             .chain(gains)
+            .chain(self.excluded.lines())
             .chain(self.lists.lines())
             .chain(self.withdrawn.lines())
             .chain(self.tried.lines())
@@ -263,13 +263,14 @@ impl Seen {
             .expect_exactly("a sheet that calls made: answer", ANSWERS_TO_MADE);
         self.signatures.expect_exactly("signatures:", NUMBERS);
         for (name, tally) in self.acting() {
-            tally.expect_exactly(name, RECORDS);
+            tally.expect_exactly(name, &RECORDS);
         }
         let far: usize = (2..8).map(|records| self.shown.seen(records)).sum();
         assert!(far > 0, "no group shown needs two H records or more");
         let gains = GAINS.map(|(gain, _)| gain as u8);
         self.gains.expect_exactly("gain", &gains);
         self.bounds.expect_exactly("bound", BOUNDS);
+        self.excluded.expect_each(100);
         self.lists.expect_all();
         self.withdrawn.expect_all();
         self.tried.expect_all();
