@@ -253,8 +253,8 @@ uint64_t release_report_by(const uint8_t *base, size_t base_len,
  * - kind 2: two policies for permissions that exclude each other, and some
  *   role is covered by both, whatever their contexts; a policy covers its role
  *   and, if its type is 1, that role's seniors;
- * - kind 3: a user, and an exclusion whose two roles that user holds, by the
- *   parameter alone, whatever the user's days.
+ * - kind 3: a user, and an exclusion of two roles in both of which that user may
+ *   act: the roles held and those junior to them, whatever the user's days.
  * First and second are the records' numbers in A, of kind 3 in U and X. Later
  * bytes of out keep their contents.
  */
