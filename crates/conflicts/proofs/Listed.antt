@@ -17,7 +17,8 @@ use Rattle.reader.specs.Codes.{holds}
 use Rattle.weights.specs.Acting.{may_act}
 use Rattle.weights.proofs.MayAct.{held_acting, acting_flat}
 use Rattle.conflicts.specs.Records.{listed}
-use Rattle.conflicts.specs.Conflicts.{contradict, overlap, both_among, holds_both, pairs_below, holders_by, conflicts}
+use Rattle.conflicts.proofs.Lists.{record_if}
+use Rattle.conflicts.specs.Conflicts.{contradict, overlap, both_among, holds_both, pairs_below, conflicts_by, conflicts}
 
 -- a list of whole records
 pub data Whole : List ℕ → Type 0 where
@@ -61,7 +62,7 @@ module _ (kind n m : ℕ) (p : ℕ → ℕ → Bool) where
   whole_if s t true = more kind s t none
   whole_if s t false = none
 
-  row_whole : (s : ℕ) → Whole (join_below m (λ t. cond (p s t) (kind ∷ s ∷ t ∷ []) []))
+  row_whole : (s : ℕ) → Whole (join_below m (record_if kind s (p s)))
   row_whole s = whole_join _ (λ t. whole_if s t (p s t)) m
 
   pub pairs_whole : Whole (pairs_below kind n m p)
@@ -122,22 +123,18 @@ module _ (kind n m : ℕ) (p : ℕ → ℕ → Bool) where
             let (li, lj, is) = pair_record h in
             any_found (λ s. any_below m (is_record s)) n i li (any_found (is_record i) m j lj is)
 
--- two tests of pairs
-module _ (kind n m : ℕ) (p q : ℕ → ℕ → Bool) where
-  -- what stands in the list by one stands in that by a wider one
-  pub pairs_wider : ((i j : ℕ) → p i j ≡ true → q i j ≡ true) → (k i j : ℕ) →
-      listed k i j (pairs_below kind n m p) ≡ true → listed k i j (pairs_below kind n m q) ≡ true
-  pairs_wider wider k i j h =
-      let was = sym (pairs_listed kind n m p k i j) ∙ h in
-      let rest = and_wider (ltb i n) _ (and_wider (ltb j m) _ (wider i j)) in
-      pairs_listed kind n m q k i j ∙ and_wider (eqb kind k) _ rest was
+-- where two tests agree, so do the lists of their pairs
+pairs_same : (kind n m : ℕ) (p q : ℕ → ℕ → Bool) → ((i j : ℕ) → p i j ≡ q i j) →
+    pairs_below kind n m p ≡ pairs_below kind n m q
+unfolding pairs_below
+pairs_same kind n m p q same = join_same _ _ n (λ i l. join_same _ _ m (λ j h. rw (same i j)))
 
-  -- where they agree, the lists are equal
-  pub pairs_same : ((i j : ℕ) → p i j ≡ q i j) → pairs_below kind n m p ≡ pairs_below kind n m q
-  unfolding pairs_below
-  pairs_same same = join_same _ _ n (λ i l. join_same _ _ m (λ j h. rw (same i j)))
+-- what follows from the second of two tests follows beside the first
+or_wider : (a b : Bool) {c : Bool} → (b ≡ true → c ≡ true) → (a || b) ≡ true → (a || c) ≡ true
+or_wider true b wider h = refl
+or_wider false b wider h = wider h
 
--- a base's list
+-- a base's list, by a reading of which roles a user has
 module _ (b : List ℕ) where
   abbrev a : List ℕ
   a = table_of b policies
@@ -145,56 +142,65 @@ module _ (b : List ℕ) where
   abbrev n : ℕ
   n = record_count policies a
 
+  abbrev x : List ℕ
+  x = table_of b exclusions
+
   abbrev m : ℕ
-  m = record_count exclusions (table_of b exclusions)
+  m = record_count exclusions x
 
   abbrev conflicts_1 : ℕ → ℕ → Bool
   conflicts_1 = contradict (table_of b contexts) a
 
   abbrev conflicts_2 : ℕ → ℕ → Bool
-  conflicts_2 = overlap (role_count b) (table_of b hierarchy) (table_of b exclusions) a
-
-  -- the records of kind 3 by a reading of which roles a user has
-  pub holders_listed : (has : List ℕ → ℕ → ℕ → Bool) (k u e : ℕ) →
-      listed k u e (holders_by has b)
-      ≡ (eqb 3 k && (ltb u (user_count b) && (ltb e m && holds_both has b u e)))
-  unfolding holders_by
-  holders_listed has k u e = pairs_listed 3 _ m (holds_both has b) k u e
+  conflicts_2 = overlap (role_count b) (table_of b hierarchy) x a
 
   -- the law of the list: each kind's records are the pairs that conflict
-  pub conflicts_listed : (k i j : ℕ) → listed k i j (conflicts b)
+  pub conflicts_listed : (has : List ℕ → ℕ → ℕ → Bool) (k i j : ℕ) → listed k i j (conflicts_by has b)
       ≡ ((eqb 1 k && (ltb i n && (ltb j n && conflicts_1 i j)))
       || ((eqb 2 k && (ltb i n && (ltb j n && conflicts_2 i j)))
-      || (eqb 3 k && (ltb i (user_count b) && (ltb j m && holds_both may_act b i j)))))
-  unfolding conflicts
-  conflicts_listed k i j =
+      || (eqb 3 k && (ltb i (user_count b) && (ltb j m && holds_both has b i j)))))
+  unfolding conflicts_by
+  conflicts_listed has k i j =
       listed_append k i j _ (pairs_whole 1 n n conflicts_1)
       ∙ rw (
-        listed_append k i j (holders_by may_act b) (pairs_whole 2 n n conflicts_2),
+        listed_append k i j (pairs_below 3 (user_count b) m (holds_both has b)) (pairs_whole 2 n n conflicts_2),
         pairs_listed 1 n n conflicts_1 k i j,
         pairs_listed 2 n n conflicts_2 k i j,
-        holders_listed may_act k i j,
+        pairs_listed 3 (user_count b) m (holds_both has b) k i j,
       )
 
-  -- who has both roles of a record by one reading has them by a wider one
-  both_wider : (has also : List ℕ → ℕ → ℕ → Bool) → ((u r : ℕ) → has b u r ≡ true → also b u r ≡ true) →
-      (u e : ℕ) → holds_both has b u e ≡ true → holds_both also b u e ≡ true
+  -- kinds 1 and 2 are the same by every reading
+  pub others_listed : (has also : List ℕ → ℕ → ℕ → Bool) (k i j : ℕ) → eqb 3 k ≡ false →
+      listed k i j (conflicts_by has b) ≡ listed k i j (conflicts_by also b)
+  others_listed has also k i j other =
+      rw (conflicts_listed has k i j, conflicts_listed also k i j, other)
+
+  -- whoever holds both roles of an exclusion may act in both
+  held_both : (u e : ℕ) → holds_both holds b u e ≡ true → holds_both may_act b u e ≡ true
   unfolding holds_both both_among
-  both_wider has also wider u e =
-      let first = exclusion_first (table_of b exclusions) e in
-      let second = exclusion_second (table_of b exclusions) e in
-      and_wider (eqb (exclusion_kind (table_of b exclusions) e) 0) _ (λ h.
-      and_both (wider u first (and_left (has b u first) _ h)) (wider u second (and_right (has b u first) _ h)))
+  held_both u e =
+      let may : (r : ℕ) → holds b u r ≡ true → may_act b u r ≡ true = held_acting b u in
+      let first = exclusion_first x e in
+      let second = exclusion_second x e in
+      and_wider (eqb (exclusion_kind x e) 0) _ (λ h.
+      and_both (may first (and_left (holds b u first) _ h)) (may second (and_right (holds b u first) _ h)))
 
-  -- so every record of kind 3 by the parameter alone is one by acting
-  pub held_listed : (u e : ℕ) → listed 3 u e (holders_by holds b) ≡ true → listed 3 u e (holders_by may_act b) ≡ true
-  unfolding holders_by
-  held_listed = pairs_wider 3 _ m _ _ (both_wider holds may_act (held_acting b)) 3
+  -- so every record of the list by the parameter alone is one of the list
+  pub held_listed : (k i j : ℕ) → listed k i j (conflicts_by holds b) ≡ true → listed k i j (conflicts b) ≡ true
+  unfolding conflicts
+  held_listed k i j h =
+      let pair = and_wider (ltb i (user_count b)) _ (and_wider (ltb j m) _ (held_both i j)) in
+      let was = sym (conflicts_listed holds k i j) ∙ h in
+      conflicts_listed may_act k i j ∙ or_wider _ _ (or_wider _ _ (and_wider (eqb 3 k) _ pair)) was
 
-  -- and without H records the two lists are equal
-  pub holders_flat : record_count hierarchy (table_of b hierarchy) ≡ 0 → holders_by may_act b ≡ holders_by holds b
-  unfolding holders_by holds_both both_among
-  holders_flat flat =
-      let x = table_of b exclusions in
-      pairs_same 3 _ m _ _ (λ u e.
-      rw (acting_flat b flat u (exclusion_first x e), acting_flat b flat u (exclusion_second x e)))
+  -- without H records whoever may act in both holds both
+  flat_both : record_count hierarchy (table_of b hierarchy) ≡ 0 → (u e : ℕ) →
+      holds_both may_act b u e ≡ holds_both holds b u e
+  unfolding holds_both both_among
+  flat_both flat u e = rw (acting_flat b flat u (exclusion_first x e), acting_flat b flat u (exclusion_second x e))
+
+  -- so the two lists are equal
+  pub conflicts_flat : record_count hierarchy (table_of b hierarchy) ≡ 0 → conflicts b ≡ conflicts_by holds b
+  unfolding conflicts conflicts_by
+  conflicts_flat flat =
+      rw (pairs_same 3 (user_count b) m (holds_both may_act b) (holds_both holds b) (flat_both flat))

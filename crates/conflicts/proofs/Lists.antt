@@ -27,7 +27,7 @@ use Rattle.reader.specs.Rules.{refusal_of}
 use Rattle.conflicts.proofs.Tables.{few_policies, few_exclusions}
 use Rattle.folds.proofs.Lowest.{lowest, without_lowest}
 use Rattle.reader.specs.Tables.{users, policies, table_of, record_count}
-use Rattle.conflicts.specs.Conflicts.{pairs_below, holders_by, conflicts, conflict_count}
+use Rattle.conflicts.specs.Conflicts.{pairs_below, conflicts_by, conflicts, conflict_count}
 use Rattle.conflicts.specs.Rows.{Rows, Contradictions, Overlaps, Holders, row_records, rows_records, all_records}
 
 -- the bytes of a record put in their place
@@ -174,7 +174,7 @@ pairs_length kind m p (suc n) = rw (length-append, pairs_length kind m p n, row_
 
 -- the conflict list's length is 3 times the number of its records
 pub list_length : (b : List ℕ) → length (conflicts b) ≡ 3 * conflict_count b
-unfolding conflicts holders_by conflict_count
+unfolding conflicts conflicts_by conflict_count
 list_length b = simp (length-append, pairs_length) (omega arith)
 
 -- the number of records of a list of that length
@@ -203,7 +203,7 @@ pub found_list : (b one two three : List ℕ) → refusal_of b ≡ 0 →
     Contradictions b one → Overlaps b two → Holders b three →
     all_records one two (record_count policies (table_of b policies)) three (record_count users (table_of b users))
     ≡ conflicts b
-unfolding conflicts holders_by
+unfolding conflicts conflicts_by
 found_list b one two three ok first second third =
     let few = few_policies b ok refl in
     let list₃ = rows_pairs 3 _ _ _ three (few_exclusions b ok refl) third in

@@ -56,20 +56,19 @@ holds_both has b u e = both_among (has b u) (table_of b exclusions) e
 unfoldable pub pairs_below : ℕ → ℕ → ℕ → (ℕ → ℕ → Bool) → List ℕ
 pairs_below kind n m p = join_below n (λ i. join_below m (λ j. cond (p i j) (kind ∷ i ∷ j ∷ []) []))
 
--- the records of kind 3, by such a reading
-unfoldable pub holders_by : (List ℕ → ℕ → ℕ → Bool) → List ℕ → List ℕ
-holders_by has b =
-    pairs_below 3 (record_count users (table_of b users)) (record_count exclusions (table_of b exclusions))
-    (holds_both has b)
-
--- the conflict list of a base; by request Eight a user has the roles in which request Two lets the user act
-unfoldable pub conflicts : List ℕ → List ℕ
-conflicts b =
+-- the conflict list of a base, by such a reading
+unfoldable pub conflicts_by : (List ℕ → ℕ → ℕ → Bool) → List ℕ → List ℕ
+conflicts_by has b =
     pairs_below 1 (record_count policies (table_of b policies)) (record_count policies (table_of b policies))
     (contradict (table_of b contexts) (table_of b policies))
     ++ (pairs_below 2 (record_count policies (table_of b policies)) (record_count policies (table_of b policies))
     (overlap (role_count b) (table_of b hierarchy) (table_of b exclusions) (table_of b policies))
-    ++ holders_by may_act b)
+    ++ pairs_below 3 (record_count users (table_of b users)) (record_count exclusions (table_of b exclusions))
+    (holds_both has b))
+
+-- the conflict list: by request Eight a user has the roles in which request Two lets the user act
+unfoldable pub conflicts : List ℕ → List ℕ
+conflicts b = conflicts_by may_act b
 
 -- the number of its records
 unfoldable pub conflict_count : List ℕ → ℕ

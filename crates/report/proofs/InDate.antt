@@ -1,5 +1,4 @@
--- The sets of roles of the users whose days include a date: who is in them, who is in none, and how many users there
--- are.
+-- The sets of roles of the users whose days include a date: who is in them, and who is in none.
 use Prim.Native.Nat.{ℕ, ◌≤◌}
 use mathlib.Core.Bool.{Bool, true, false, not, ◌&&◌, cond, and-false, and-true}
 use mathlib.Core.Path.{◌≡◌, refl, sym, ◌∙◌}
