@@ -3,7 +3,7 @@ use Prim.Native.Nat.{ℕ, zero, suc, ◌+◌, ◌*◌, ◌<◌, ◌≤◌}
 use mathlib.Core.Bool.{Bool, true, false, cond}
 use mathlib.Core.Path.{◌≡◌, refl}
 use native.Mathlib.Numerals.{add-one}
-use native.Mathlib.Nat.{add_comm, zero-add, add-zero, add-suc, add_assoc, mul-one, mul-pos, suc-mul}
+use native.Mathlib.Nat.{add_comm, add-zero, add_assoc, mul-one, mul-pos, suc-mul}
 use native.Mathlib.Nat.{not-suc-le-zero, eq-or-lt_of_le, le_of_suc-le-suc}
 use mathlib.Core.Logic.{⊎_elim}
 use native.Mathlib.Omega.{arith}
@@ -25,16 +25,11 @@ module _ (f : ℕ → ℕ) where
   unfolding sum_below
   sum_step n = refl
 
-  pub sum_one : sum_below 1 f ≡ f 0
+  -- the first in front of the others
+  pub sum_first : (n : ℕ) → sum_below (suc n) f ≡ f 0 + sum_below n (λ i. f (suc i))
   unfolding sum_below
-  sum_one = zero-add (f 0)
-
-  -- what the numbers below m add, and then the next n
-  pub sum_split : (m n : ℕ) → sum_below (m + n) f ≡ sum_below m f + sum_below n (λ i. f (m + i))
-  unfolding sum_below
-  sum_split m zero = rw (add-zero m, add-zero (sum_below m f))
-  sum_split m (suc n) =
-      rw (add-suc, sum_split m n) (add_assoc (sum_below m f) (sum_below n (λ i. f (m + i))) (f (m + n)))
+  sum_first zero = add_comm 0 (f 0)
+  sum_first (suc n) = rw (sum_first n) (add_assoc (f 0) (sum_below n (λ i. f (suc i))) (f (suc n)))
 
   -- a sum over fewer numbers is not larger
   pub sum_le_sum : (m n : ℕ) → m ≤ n → sum_below m f ≤ sum_below n f

@@ -1,7 +1,7 @@
 -- Laws of the tests below n: all, any, first.
 use Prim.Native.Nat.{ℕ, zero, suc, ◌+◌, ◌<◌, ◌≤◌}
-use mathlib.Core.Bool.{Bool, true, false, and-false, or-true, cond, ◌||◌, or-false}
-use mathlib.Core.Path.{◌≡◌, refl}
+use mathlib.Core.Bool.{Bool, true, false, and-false, or-true, cond, ◌||◌, or-false, or_assoc}
+use mathlib.Core.Path.{◌≡◌, refl, sym}
 use mathlib.Core.Logic.{⊎_elim}
 use native.Mathlib.Numerals.{add-one}
 use native.Mathlib.Nat.{eq-or-lt_of_le, le_of_suc-le-suc, not-suc-le-zero, lt_irrefl}
@@ -58,6 +58,12 @@ module _ (p : ℕ → Bool) where
   pub any_next : (i : ℕ) → any_below (i + 1) p ≡ (any_below i p || p i)
   unfolding any_below
   any_next i = rw add-one
+
+  -- the first in front of the others
+  pub any_first : (n : ℕ) → any_below (suc n) p ≡ (p 0 || any_below n (λ i. p (suc i)))
+  unfolding any_below
+  any_first zero = sym (or-false (p 0))
+  any_first (suc n) = rw (any_first n) (or_assoc (p 0) (any_below n (λ i. p (suc i))) (p (suc n)))
 
   pub any_found : (n i : ℕ) → i < n → p i ≡ true → any_below n p ≡ true
   unfolding any_below

@@ -6,14 +6,13 @@ use mathlib.Core.Logic.{⊎_elim, ◌↔◌}
 use mathlib.Core.List.{List}
 use native.Mathlib.Omega.{arith}
 use native.Mathlib.Nat.{lt_irrefl, not-suc-le-zero, add-zero}
-use native.Mathlib.Numerals.{one-add}
 use borrow.Author.Tests.{ne_eqb}
 use lib.Dec.{eqb}
 use lib.ListN.{get_or}
 use Rattle.folds.specs.Below.{sum_below}
 use Rattle.folds.specs.Sets.{in_set}
 use Rattle.folds.proofs.Bools.{met_or_not}
-use Rattle.folds.proofs.Numbers.{sum_same, sum_tail, sum_split, sum_le, sum_none, sum_one, sum_zero, sum_pick}
+use Rattle.folds.proofs.Numbers.{sum_same, sum_tail, sum_first, sum_le, sum_none, sum_zero, sum_pick}
 use Rattle.reader.specs.Tables.{hierarchy, contexts, policies, role_count, table_of, record_count}
 use Rattle.reader.specs.Fields.{policy_role, policy_context}
 use Rattle.reader.specs.Rules.{policies_bad, refusal_of}
@@ -81,10 +80,10 @@ module _ (b : List ℕ) (ok : refusal_of b ≡ 0) where
     shares_le : (r n : ℕ) → n ≤ 8 → sum_below n (share rules b at p r) ≤ 35
     shares_le r zero h = rw (sum_none (share rules b at p r)) (omega arith)
     shares_le r (suc n) h =
-        let later : ℕ → ℕ = λ i. share rules b at p r (1 + i) in
-        let l : sum_below n later ≤ n * 5 = sum_le later 5 n (λ i l. share_le r (1 + i)) in
+        let later : ℕ → ℕ = λ i. share rules b at p r (suc i) in
+        let l : sum_below n later ≤ n * 5 = sum_le later 5 n (λ i l. share_le r (suc i)) in
         let none = share_none r 0 (λ l k. absurd (not-suc-le-zero l)) in
-        rw (← one-add n, sum_split (share rules b at p r) 1 n, sum_one (share rules b at p r), none) (omega arith)
+        rw (sum_first (share rules b at p r) n, none) (omega arith)
 
     -- each junior counts once: its share, and those of the others
     pub weight_once : (r j : ℕ) → Chain (table_of b hierarchy) r j →
