@@ -5,7 +5,8 @@ use Rattle.reader.specs.declared.refusal.Refusal.TheVariants.{BaseLength, Letter
 use Rattle.reader.specs.declared.refusal.Refusal.TheVariants.{Contexts, Policies, Exclusions, Permission, Context}
 use Rattle.reader.specs.declared.refusal.Refusal.TheVariants.{GroupLength, Unknown, Twice, Ineligible, Weightless}
 use Rattle.reader.specs.declared.refusal.Refusal.TheVariants.{Unmet, ConflictRoom, ReportRoom, FullSheet, Change}
-use Rattle.reader.specs.declared.refusal.Refusal.TheVariants.{Rules, NotSigned, OutOfDate}
+use Rattle.reader.specs.declared.refusal.Refusal.TheVariants.{Rules, NotSigned, OutOfDate, Register, Unvouched}
+use Rattle.reader.specs.declared.refusal.Refusal.TheVariants.{Threshold}
 use Rattle.reader.specs.declared.refusal.Refused.{Refused}
 use Rattle.reader.specs.declared.Answer.{Answer}
 
@@ -35,6 +36,9 @@ refusal_number Change = 21
 refusal_number Rules = 22
 refusal_number NotSigned = 23
 refusal_number OutOfDate = 24
+refusal_number Register = 25
+refusal_number Unvouched = 26
+refusal_number Threshold = 27
 
 -- a refusal that carries 0
 abbrev pub carrying_nothing : Refusal → Refused

@@ -29,6 +29,9 @@ pub enum Refusal {
     Rules = 22,
     NotSigned = 23,
     OutOfDate = 24,
+    Register = 25,
+    Unvouched = 26,
+    Threshold = 27,
 }
 
 // Its number in the list.

@@ -24,8 +24,8 @@ impl Days {
         }
     }
 
-    // The first day is above the last.
-    fn are_turned(self) -> bool
+    // Inner: the first day is above the last.
+    pub fn are_turned(self) -> bool
         ensures { result ≡ ltb self.last self.first }
     {
         self.last < self.first
