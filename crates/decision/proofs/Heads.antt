@@ -3,24 +3,25 @@
 use Prim.Native.Nat.{ℕ, ◌<◌}
 use mathlib.Core.Bool.{Bool, true, false, not, cond}
 use mathlib.Core.List.{List}
-use mathlib.Core.Logic.{◌↔◌}
+use mathlib.Core.Logic.{◌↔◌, ⊎_elim}
 use mathlib.Core.Path.{◌≡◌, refl, sym, ◌∙◌}
-use borrow.Author.Tests.{ltb-true, not-false}
-use lib.Dec.{ltb}
-use Rattle.folds.proofs.Bools.{refused, unrefused, none_met, none_refused}
+use borrow.Author.Tests.{eqb-true, eqb-false, ltb-true, not-false}
+use lib.Dec.{ltb, eqb}
+use Rattle.folds.proofs.Bools.{met_or_not, refused, unrefused, none_met, none_refused}
 use Rattle.reader.specs.Tables.{permission_count}
 use Rattle.reader.specs.Rules.{refusal_of}
 use Rattle.weights.specs.declared.Context.{Context}
 use Rattle.weights.specs.Contexts.{out_of_range}
 use Rattle.resolution.specs.Resolution.{list_refused, lent}
 use Rattle.resolution.proofs.Lending.{lent_left, lent_refused}
+use Rattle.decision.specs.Groups.{members_refusal, some_out_of_date, present}
 use Rattle.decision.specs.Decision.{group_decision, asking, decision_by, decision_lent}
 use Rattle.decision.specs.Granting.{GrantedBy}
 use Rattle.decision.proofs.Granting.{granted_by}
 
 module _ (b : List ℕ) (at : Context) (p : ℕ) where
   -- 10 or 11, where one applies, goes before what follows
-  asking_first : (asking b at p 0 ≡ 0 → ⊥) → (left : ℕ) → asking b at p 0 ≡ asking b at p left
+  pub asking_first : (asking b at p 0 ≡ 0 → ⊥) → (left : ℕ) → asking b at p 0 ≡ asking b at p left
   asking_first some left = by (not (ltb p (permission_count b))) (out_of_range at) some
     where
       by : (t u : Bool) → (cond {A = ℕ} t 10 (cond u 11 0) ≡ 0 → ⊥) →
@@ -33,7 +34,7 @@ module _ (b : List ℕ) (at : Context) (p : ℕ) where
   pub asking_there : asking b at p 0 ≡ 0 → p < permission_count b
   asking_there h = ltb-true _ _ (not-false _ (none_met (not (ltb p (permission_count b))) 9 h).0)
 
-  asking_left : asking b at p 0 ≡ 0 → (left : ℕ) → asking b at p left ≡ left
+  pub asking_left : asking b at p 0 ≡ 0 → (left : ℕ) → asking b at p left ≡ left
   asking_left h left =
       let (there, past10) = none_met (not (ltb p (permission_count b))) 9 h in
       let (in_range, _) = none_met (out_of_range at) 10 past10 in
@@ -54,6 +55,36 @@ module _ (b : List ℕ) (at : Context) (p : ℕ) where
     unfolding decision_by
     group_decided ok passed same listed is =
         is ∙ rw (same, listed) (sym (unrefused ok ∙ asking_left passed (group_decision rules b at p g)))
+
+-- 12 to 15 and 24
+module _ (U R : ℕ) (may : ℕ → ℕ → Bool) (out : ℕ → Bool) (g : List ℕ) where
+  -- where one applies, it goes before what follows
+  pub present_first : (present U R may out g 0 ≡ 0 → ⊥) → (left : ℕ) →
+      present U R may out g 0 ≡ present U R may out g left
+  present_first some left =
+      ⊎_elim (λ e. among (eqb-true _ _ e)) (λ e. apart (eqb-false _ _ e))
+      (met_or_not (eqb (members_refusal U R may g) 0))
+    where
+      apart : (members_refusal U R may g ≡ 0 → ⊥) → present U R may out g 0 ≡ present U R may out g left
+      apart bad = sym (refused _ bad) ∙ refused _ bad
+
+      late : members_refusal U R may g ≡ 0 → some_out_of_date out g ≡ true →
+          present U R may out g 0 ≡ present U R may out g left
+      late none t = rw (none, t)
+
+      on_time : members_refusal U R may g ≡ 0 → some_out_of_date out g ≡ false →
+          present U R may out g 0 ≡ present U R may out g left
+      on_time none t = absurd (some (rw (none, t)))
+
+      among : members_refusal U R may g ≡ 0 → present U R may out g 0 ≡ present U R may out g left
+      among none = ⊎_elim (late none) (on_time none) (met_or_not (some_out_of_date out g))
+
+  -- where none applies, what follows is left
+  pub present_left : present U R may out g 0 ≡ 0 → (left : ℕ) → present U R may out g left ≡ left
+  present_left h left =
+      let (members, past15) = none_refused (members_refusal U R may g) _ h in
+      let (on, _) = none_met (some_out_of_date out g) 23 past15 in
+      rw (members, on)
 
 -- with a list lent
 module _ (b : List ℕ) (at : Context) (p : ℕ) (list g : List ℕ) where

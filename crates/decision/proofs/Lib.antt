@@ -1,3 +1,4 @@
 pub mod Agree
+pub mod Front
 pub mod Granting
 pub mod Heads

@@ -9,7 +9,7 @@ use Rattle.resolution.specs.Resolution.{lent}
 use Rattle.weights.specs.Weights.{weight}
 use Rattle.weights.specs.Acting.{may_act}
 use Rattle.decision.specs.Conditions.{permission_holds}
-use Rattle.decision.specs.Groups.{members_refusal, weighed_refusal, group_refusal}
+use Rattle.decision.specs.Groups.{members_refusal, present, weighed_refusal, group_refusal}
 
 -- user u may stand in a group for permission p in role r, in this context, as far as 15 asks: u may act in r
 abbrev pub eligible : List ℕ → Context → ℕ → ℕ → ℕ → Bool
@@ -22,6 +22,10 @@ out_of_date b at u = out_of_days (table_of b users) at.date u
 -- refusals 12 to 15 by the base's users and roles and by who may act
 abbrev pub members_of : List ℕ → List ℕ → ℕ
 members_of b g = members_refusal (user_count b) (role_count b) (may_act b) g
+
+-- refusals 12 to 15, and 24 by the users' days, before what is left
+abbrev pub present_of : List ℕ → Context → List ℕ → ℕ → ℕ
+present_of b at g left = present (user_count b) (role_count b) (may_act b) (out_of_date b at) g left
 
 -- refusals 16 and 17 by the roles' weights and the permission's condition
 abbrev pub weighed_of : List ℕ → List ℕ → Context → ℕ → List ℕ → ℕ

@@ -84,9 +84,14 @@ abbrev pub weighed_refusal : (ℕ → ℕ) → (ℕ → ℕ → ℕ → Bool) �
 weighed_refusal weight condition g =
     cond (some_weightless weight g) 16 (cond (condition (entry_count g) (sum_of weight g) (roles_of g)) 0 17)
 
--- the first of refusals 12 to 15, 24, 16 and 17 that applies, or 0: 12 to 15 as above, then 24 by a test of the user,
--- 16 and 17 as above
+-- the first of refusals 12 to 15 and 24 that applies, before what is left: 12 to 15 as above, then 24 by a test of the
+-- user
+abbrev pub present : ℕ → ℕ → (ℕ → ℕ → Bool) → (ℕ → Bool) → List ℕ → ℕ → ℕ
+present U R eligible out g left =
+    cond (not (eqb (members_refusal U R eligible g) 0)) (members_refusal U R eligible g)
+    (cond (some_out_of_date out g) 24 left)
+
+-- the first of refusals 12 to 15, 24, 16 and 17 that applies, or 0
 unfoldable pub group_refusal : ℕ → ℕ → (ℕ → ℕ → Bool) → (ℕ → Bool) → (ℕ → ℕ) → (ℕ → ℕ → ℕ → Bool) → List ℕ → ℕ
 group_refusal U R eligible out weight condition g =
-    cond (not (eqb (members_refusal U R eligible g) 0)) (members_refusal U R eligible g)
-    (cond (some_out_of_date out g) 24 (weighed_refusal weight condition g))
+    present U R eligible out g (weighed_refusal weight condition g)

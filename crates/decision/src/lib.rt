@@ -2,11 +2,11 @@
 // where a list is lent, that applies.
 #![tactic(auto)]
 
-ghost use Rattle.std.specs.Prelude.{◌≡◌, ◌<◌};
+ghost use Rattle.std.specs.Prelude.{◌≡◌, ◌<◌, IfOk};
 ghost use Rattle.reader.specs.Tables.{permission_count};
 ghost use Rattle.reader.specs.Refusals.{number_of};
 ghost use Rattle.weights.specs.Setting.{rules_of, FixedBy};
-ghost use Rattle.decision.specs.Decision.{weighed_of, group_decision, asking, decision_of, decision_lent};
+ghost use Rattle.decision.specs.Decision.{present_of, weighed_of, group_decision, asking, decision_of, decision_lent};
 
 use reader::{Base, Refusal, Table};
 use weights::acting::Acting;
@@ -47,8 +47,8 @@ pub fn decide_by(
     decide_checked(&base, permission as u8, s, group)
 }
 
-// Refusals 10 and 11 for an accepted base.
-fn asking_refusal(base: &Base<'_>, permission: u32, at: Context) -> Result<(), Refusal>
+// Inner: refusals 10 and 11 for an accepted base.
+pub fn asking_refusal(base: &Base<'_>, permission: u32, at: Context) -> Result<(), Refusal>
     ensures { number_of result ≡ asking base.now at permission 0 }
 {
     if u32::from(base.permission_count()) <= permission {
@@ -71,15 +71,25 @@ pub fn decide_checked(
     requires { (permission < permission_count base.now) × FixedBy base.now s }
     ensures { number_of result ≡ group_decision (rules_of s) base.now s.at permission group.now }
 {
+    let members = present(base, s, group)?;
+    weighed_refusal(base, permission, s, &members)
+}
+
+// Inner: refusals 12 to 15 and 24 of a group, or the group as one that passed 12 to 15.
+pub fn present<'a>(base: &Base<'_>, s: Fixed, group: &'a [u8]) -> Result<Members<'a>, Refusal>
+    requires { FixedBy base.now s }
+    ensures number { number_of result ≡ present_of base.now s.at group.now 0 }
+    ensures same { IfOk result (λ members. members ≡ group.now) }
+{
     let members = Members::of(&Acting::by(base, s.juniors), group)?;
     if groups::some_out_of_date(members.bytes(), base.part(Table::Users), s.at.date) {
         return Err(Refusal::OutOfDate);
     }
-    weighed_refusal(base, permission, s, &members)
+    Ok(members)
 }
 
-// Refusals 16 and 17 of a group that passed 12 to 15.
-fn weighed_refusal(
+// Inner: refusals 16 and 17 of a group that passed 12 to 15.
+pub fn weighed_refusal(
     base: &Base<'_>,
     permission: u8,
     s: Fixed,

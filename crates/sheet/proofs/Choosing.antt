@@ -9,9 +9,10 @@ use lib.ListN.{length}
 use lib.Dec.{eqb}
 use Rattle.folds.proofs.Bools.{or_neither, eqb_sym}
 use Rattle.decision.specs.Groups.{entry_user}
+use Rattle.decision.proofs.Front.{later_user}
 use Rattle.sheet.specs.Sheets.{staying, is_another}
 use Rattle.sheet.specs.Signings.{Signing, signed_by, entries_of}
-use Rattle.sheet.proofs.Staying.{later_user, kept, staying_first}
+use Rattle.sheet.proofs.Staying.{kept, staying_first}
 use Rattle.sheet.proofs.Standing.{first_differs, later_unsigned, each_differs}
 
 -- in their order

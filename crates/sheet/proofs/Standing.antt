@@ -9,10 +9,10 @@ use lib.Dec.{eqb}
 use Rattle.folds.proofs.Bools.{or_left, or_right, or_neither, same_failure}
 use Rattle.folds.proofs.Tests.{any_at, any_each}
 use Rattle.decision.specs.Groups.{entry_count, entry_user}
+use Rattle.decision.proofs.Front.{later_user}
 use Rattle.sheet.specs.Sheets.{held_on, stands_in, holding, with_entry}
 use Rattle.sheet.specs.Signings.{Signing, signed_by, entries_of, sheet_with}
 use Rattle.sheet.proofs.Holding.{holding_held, holding_more}
-use Rattle.sheet.proofs.Staying.{later_user}
 
 -- the entries' bytes of a list of signings
 pub entries_length : (xs : List Signing) → length (entries_of xs) ≡ 2 * length xs

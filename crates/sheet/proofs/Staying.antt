@@ -8,6 +8,7 @@ use lib.ListN.{length, length-append, get_or}
 use Rattle.folds.specs.Below.{join_below}
 use Rattle.folds.proofs.Lists.{join_first, join_same}
 use Rattle.decision.specs.Groups.{entry_count, entry_user, entry_role}
+use Rattle.decision.proofs.Front.{front_count, later_user, later_role}
 use Rattle.sheet.specs.declared.Sheet.{Sheet}
 use Rattle.sheet.specs.Sheets.{unsigned, holding, with_entry, staying}
 use Rattle.sheet.proofs.Holding.{holding_count, holding_more}
@@ -29,13 +30,6 @@ module _ (stays : ℕ → ℕ → Bool) (held : List ℕ) where
   abbrev kept_at : ℕ → List ℕ
   kept_at i = kept (stays_at i) (entry_user held i) (entry_role held i)
 
--- the entries behind the first
-pub later_user : (u r : ℕ) (l : List ℕ) (i : ℕ) → entry_user (u ∷ r ∷ l) (suc i) ≡ entry_user l i
-later_user u r l i = let e : 2 * suc i ≡ suc (suc (2 * i)) = omega arith in rw e
-
-later_role : (u r : ℕ) (l : List ℕ) (i : ℕ) → entry_role (u ∷ r ∷ l) (suc i) ≡ entry_role l i
-later_role u r l i = let e : 2 * suc i + 1 ≡ suc (suc (2 * i + 1)) = omega arith in rw e
-
 -- of an entry and those behind it
 module _ (stays : ℕ → ℕ → Bool) (u r : ℕ) (l : List ℕ) where
   later_kept : (i : ℕ) → kept_at stays (u ∷ r ∷ l) (suc i) ≡ kept_at stays l i
@@ -44,8 +38,7 @@ module _ (stays : ℕ → ℕ → Bool) (u r : ℕ) (l : List ℕ) where
   pub staying_first : staying stays (u ∷ r ∷ l) ≡ kept (stays u r) u r ++ staying stays l
   unfolding staying
   staying_first =
-      let n : entry_count (u ∷ r ∷ l) ≡ suc (entry_count l) = omega arith in
-      ap (λ (k : ℕ). join_below k (kept_at stays (u ∷ r ∷ l))) n
+      ap (λ (k : ℕ). join_below k (kept_at stays (u ∷ r ∷ l))) (front_count u r l)
       ∙ join_first (kept_at stays (u ∷ r ∷ l)) (entry_count l)
       ∙ ap (λ (m : List ℕ). kept (stays u r) u r ++ m)
       (join_same _ (kept_at stays l) (entry_count l) (λ i h. later_kept i))
