@@ -22,24 +22,24 @@ use Rattle.fewest.specs.Search.{holds_with, WeighedBelow, IsLast}
 
 -- the sum and the set of entries by rising user, whose roles have weight
 module _ (sets : List ℕ) {w : List ℕ} {s : Weighed} (weighed : WeighedBelow w 8 s) where
-  sum_least : (from : ℕ) (g : List Entry) → Rises sets w from g → length g * s.light ≤ entries_sum w g
+  pub sum_least : (from : ℕ) (g : List Entry) → Rises sets w from g → length g * s.light ≤ entries_sum w g
   sum_least from [] r = omega arith
   sum_least from (e ∷ g) r =
       let m = r.1 in
       omega (arith, sum_least (e.user + 1) g r.2, weighed.light e.role m.role m.heavy)
 
-  sum_most : (from : ℕ) (g : List Entry) → Rises sets w from g → entries_sum w g ≤ length g * s.heavy
+  pub sum_most : (from : ℕ) (g : List Entry) → Rises sets w from g → entries_sum w g ≤ length g * s.heavy
   sum_most from [] r = omega arith
   sum_most from (e ∷ g) r = omega (arith, sum_most (e.user + 1) g r.2, weighed.heavy e.role r.1.role)
 
-  roles_low : (from : ℕ) (g : List Entry) → Rises sets w from g → entries_roles g < 2 ^ s.end
+  pub roles_low : (from : ℕ) (g : List Entry) → Rises sets w from g → entries_roles g < 2 ^ s.end
   roles_low from [] r = pow_pos s.end
   roles_low from (e ∷ g) r =
       let m = r.1 in
       or_lt s.end (2 ^ e.role) (entries_roles g) (pow-lt (weighed.before e.role m.role m.heavy))
       (roles_low (e.user + 1) g r.2)
 
-  roles_heavy : (from : ℕ) (g : List Entry) → Rises sets w from g → (q : ℕ) → in_set (entries_roles g) q ≡ true →
+  pub roles_heavy : (from : ℕ) (g : List Entry) → Rises sets w from g → (q : ℕ) → in_set (entries_roles g) q ≡ true →
       0 < get_or w q 0
   roles_heavy from [] r q h = clash (in_set 0 q) h (in_none q)
   roles_heavy from (e ∷ g) r q h = ⊎_elim

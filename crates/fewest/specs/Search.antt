@@ -8,6 +8,10 @@ use Rattle.multisets.specs.Values.{Light}
 use Rattle.masks.specs.declared.Placed.{Placed}
 use Rattle.masks.specs.declared.Weighed.{Weighed}
 
+-- nobody placed
+abbrev pub nobody : Placed
+nobody = record { count = 0; sum = 0; roles = 0 }
+
 -- the condition holds of the entries placed and n more, where all have the sum, and those more act in the set; no entry
 -- at all is no group
 abbrev pub holds_with : List ℕ → ℕ → Placed → ℕ → ℕ → ℕ → Bool

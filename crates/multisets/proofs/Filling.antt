@@ -29,24 +29,24 @@ came_later h w = record {
 
 -- at first the empty multiset alone is reached
 pub filled_none : (d : ℕ) (nexts ends from : List ℕ) → first d 7 ≤ length ends → first d 7 ≤ length from →
-    ((x : ℕ) → x < first d 7 → get_or ends x 0 ≡ 255) → Filled d nexts 0 (set ends 0 0) from
+    ((x : ℕ) → 0 < x → x < first d 7 → 255 ≤ get_or ends x 0) → Filled d nexts 0 (set ends 0 0) from
 filled_none d nexts ends from room places blank = record {
   room = rw (length-set ends 0 0) room;
   places = places;
   none = none;
   within = λ x l h. ⊎_elim
       (λ t. let q : x ≡ 0 = eqb-true x 0 t in rw (q, none) (omega arith))
-      (λ t. absurd (lt_irrefl 255 (rw (other x (eqb-false x 0 t) l) at h)))
+      (λ t. let ne = eqb-false x 0 t in absurd (omega (arith, other x (omega (arith, ne)) l, h)))
       (met_or_not (eqb x 0));
   least = λ n m q c g l. absurd (omega arith);
-  came = λ x pos l h. absurd (lt_irrefl 255 (rw (other x (λ z. omega arith) l) at h));
+  came = λ x pos l h. absurd (omega (arith, other x pos l, h));
 }
   where
     none : get_or (set ends 0 0) 0 0 ≡ 0
     none = get_or-set_same ends 0 0 0 (omega (arith, room, first_1 d, first_le d 1 7 (omega arith)))
 
-    other : (x : ℕ) → (x ≡ 0 → ⊥) → x < first d 7 → get_or (set ends 0 0) x 0 ≡ 255
-    other x ne l = get_or-set_other ends 0 x 0 0 ne ∙ blank x l
+    other : (x : ℕ) → 0 < x → x < first d 7 → 255 ≤ get_or (set ends 0 0) x 0
+    other x pos l = rw (get_or-set_other ends 0 x 0 0 (λ z. omega arith)) (blank x pos l)
 
 module _ {d : ℕ} (most : d ≤ 8) {nexts : List ℕ} {k : ℕ} {ends from : List ℕ} (f : Filled d nexts k ends from) where
   -- entries past k that are those of a multiset that isn't reached lead nowhere

@@ -10,3 +10,4 @@ pub mod Writing
 pub mod Bytes
 pub mod Rows
 mod Reading
+mod Begin

@@ -10,14 +10,17 @@ use Rattle.folds.proofs.Bools.{met_or_not}
 use Rattle.folds.proofs.Numbers.{sum_step, sum_le_sum}
 use Rattle.std.proofs.Props.{props}
 use Rattle.multisets.specs.Ranks.{starts, first, more}
-use Rattle.multisets.specs.Ends.{NextTable, Grows, Came}
-use Rattle.multisets.specs.Levels.{Levels}
+use Rattle.multisets.specs.Ends.{NextTable, Grows, Came, Filled}
+use Rattle.multisets.specs.Levels.{Shaped}
 
--- the levels up to `known` are made of the users' next ends, and there is room for the sums
-pub record Laid (d known : ℕ) (nexts t ends from roles sums : List ℕ) : Type 0 where
+-- up to the level of `known` roles the ends are those of the users' next ends, and by which entries they came; up to
+-- that of `shaped` roles the rest is made; and there is room for the sums
+pub record Laid (d known shaped : ℕ) (nexts t ends from roles sums : List ℕ) : Type 0 where
   pub most : d ≤ 8
   pub table : NextTable nexts
-  pub levels : Levels d known nexts t ends from roles
+  pub within : known ≤ shaped
+  pub shape : Shaped d shaped t roles
+  pub filled : Filled d nexts (8 * first d known) ends from
   pub room : first d 7 ≤ length sums
 
 module _ (d : ℕ) where
@@ -87,9 +90,9 @@ module _ (d k x c : ℕ) (nexts ends : List ℕ) where
       let same : facts_of a ≡ facts_of b = Σ_prop_path facts_prop (same_triple (a.n, a.m, a.q) (b.n, b.m, b.q) one) in
       ap came_of same
 
-pub Laid-prop : {d known : ℕ} {nexts t ends from roles sums : List ℕ} →
-    IsProp (Laid d known nexts t ends from roles sums)
-Laid-prop {d} {known} {nexts} {t} {ends} {from} {roles} {sums} a b =
+pub Laid-prop : {d known shaped : ℕ} {nexts t ends from roles sums : List ℕ} →
+    IsProp (Laid d known shaped nexts t ends from roles sums)
+Laid-prop {d} {known} {shaped} {nexts} {t} {ends} {from} {roles} {sums} a b =
     let one : (k x c : ℕ) → IsProp (Came d nexts k ends x c) = λ k x c. Came-prop d k x c nexts ends a.most in
-    let all : IsProp (Laid d known nexts t ends from roles sums) = hlevel (props, one) in
+    let all : IsProp (Laid d known shaped nexts t ends from roles sums) = hlevel (props, one) in
     all a b

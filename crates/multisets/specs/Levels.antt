@@ -29,14 +29,9 @@ pub record Kept (r : ℕ) (a : List ℕ) : Type 0 where
   pub below : (q : ℕ) → q < r → q < 8 → get_or a q 0 ≡ 1
   pub above : (q : ℕ) → r ≤ q → q < 8 → get_or a q 0 ≡ 0
 
--- the multisets before place k have their rows and have led on
-pub record Grown (d : ℕ) (nexts : List ℕ) (k : ℕ) (t ends from : List ℕ) : Type 0 where
-  pub rows : Rows d k t
-  pub filled : Filled d nexts (8 * k) ends from
-
--- of the multisets reached, those before place k have their rows and have led on, by these users' next ends
-abbrev pub GrownTo : {rows places : ℕ} → Users → ℕ → Reached rows places → Type 0
-GrownTo users k reached = Grown users.d users.nexts k reached.rows reached.ends reached.from
+-- of the multisets reached, those before place k have led on, by these users' next ends
+abbrev pub LedOn : {places : ℕ} → Users → ℕ → Reached places → Type 0
+LedOn users k reached = Filled users.d users.nexts (8 * k) reached.ends reached.from
 
 -- what a multiset needs to lead on: it is multiset m of n, at place i, and m lies at `next` among those of a role more
 pub record Pushing (d : ℕ) (nexts up : List ℕ) (i next : ℕ) (ends from : List ℕ) : Type 0 where
@@ -50,11 +45,10 @@ pub record Pushing (d : ℕ) (nexts up : List ℕ) (i next : ℕ) (ends from : L
   pub ups : Ups n m up 0
   pub filled : Filled d nexts (8 * i) ends from
 
--- the levels up to n are made: their ends, and by which entries they came, and their sets of roles; and the rows that
--- the next level is made of
-pub record Levels (d n : ℕ) (nexts t ends from roles : List ℕ) : Type 0 where
+-- what depends on no user, for the levels up to n: the sets of roles, and the rows by which the levels before lead on
+pub record Shaped (d n : ℕ) (t roles : List ℕ) : Type 0 where
   pub most : n ≤ 6
-  pub grown : Grown d nexts (first d n) t ends from
+  pub rows : Rows d (first d n) t
   pub held : Held d d set_at roles (first d (suc n))
 
 -- the table holds the sums that a search weighs by, of the multisets of roles below its end that stand before place k
@@ -64,11 +58,3 @@ Summed d weighing t k = Held d weighing.end (sum_at weighing.w weighing.placed) 
 -- placed before and n entries more, of at most 40 each, their sums fit a byte
 abbrev pub SumsFit : Weighing → ℕ → Type 0
 SumsFit weighing n = weighing.placed + n * 40 ≤ 255
-
--- tables with room for all levels, with no end yet
-pub record Blank (d : ℕ) (t ends from roles : List ℕ) : Type 0 where
-  pub rows_room : 8 * first d 5 ≤ length t
-  pub ends_room : first d 7 ≤ length ends
-  pub from_room : first d 7 ≤ length from
-  pub roles_room : first d 7 ≤ length roles
-  pub blank : (x : ℕ) → x < first d 7 → get_or ends x 0 ≡ 255

@@ -3,7 +3,7 @@ ghost use Rattle.std.specs.Prelude.{◌≡◌, ℕ, suc, ◌+◌, ◌*◌, ◌�
 ghost use Rattle.multisets.specs.Ranks.{starts, first};
 ghost use Rattle.multisets.specs.Values.{Written};
 ghost use Rattle.multisets.specs.Ends.{Filled, Relaxed};
-ghost use Rattle.multisets.specs.Levels.{Fixed, Kept, GrownTo, Pushing};
+ghost use Rattle.multisets.specs.Levels.{Fixed, Kept, Rows, LedOn, Pushing};
 
 use crate::ends::Users;
 use crate::ranks::{first_in, start_in};
@@ -37,14 +37,47 @@ fn ups_of(t: &[u16], at: usize, fixed: &[u16; 8], kept: &[u16; 8]) -> [u16; 8]
     array::from_fn(|q| fixed[q] + t[at + q] * kept[q])
 }
 
-// Writes the eight numbers of a multiset of n roles; those of five roles are not read again.
-fn keep_row(t: &mut [u16], n: usize, at: usize, up: &[u16; 8])
-    requires { (n ≤ 4 → at + 8 ≤ length t.old) × (at ≤ 100000) }
-    ensures { (n ≤ 4 → Written (λ q. get_or up.now q 0) at 8 t.old t.new)
-        × (5 ≤ n → t.new ≡ t.old) }
+// Writes the eight numbers of a multiset.
+fn keep_row(t: &mut [u16], at: usize, up: &[u16; 8])
+    requires { (at + 8 ≤ length t.old) × (at ≤ 100000) }
+    ensures { Written (λ q. get_or up.now q 0) at 8 t.old t.new }
 {
-    if n <= 4 {
-        t[at..at + 8].copy_from_slice(up);
+    t[at..at + 8].copy_from_slice(up);
+}
+
+// The rows of the multisets of n + 1 roles whose largest is r, from those of n roles. Kept out of line: taken in, the
+// compiler makes them number by number.
+#[inline(never)]
+fn add_block(t: &mut [u16], d: usize, n: usize, r: usize)
+    requires { (n ≤ 3) × (d ≤ 8) × (r < d) × Rows d (first d (suc n) + starts (suc n) r) t.old }
+    ensures { Rows d (first d (suc n) + starts (suc n) (suc r)) t.new }
+{
+    let less = first_in(d, n);
+    let here = first_in(d, n + 1) + start_in(n + 1, r);
+    let fixed = fixed_steps(n, r);
+    let kept = kept_steps(r);
+    // A multiset is a number here, and its row goes into the table that the next ones read.
+    for j in 0..start_in(n, r + 1) {
+        let up = ups_of(t, 8 * (less + j), &fixed, &kept);
+        keep_row(t, 8 * (here + j), &up);
+    }
+}
+
+// Inner: the rows of the multisets of n roles, from those of one fewer; of five roles none are kept.
+pub fn add_rows(t: &mut [u16], d: usize, n: usize)
+    requires { (n ≤ 5) × (d ≤ 8) × Rows d (first d n) t.old }
+    ensures { Rows d (first d (suc n)) t.new }
+{
+    if n == 0 {
+        keep_row(t, 0, &[0, 1, 2, 3, 4, 5, 6, 7]);
+        return;
+    }
+    if n == 5 {
+        return;
+    }
+    // A role is a number here, and each block changes the table.
+    for r in 0..d {
+        add_block(t, d, n - 1, r);
     }
 }
 
@@ -59,22 +92,22 @@ fn relax(ends: &mut [u8], from: &mut [u16], at: usize, end: u8, k: u16)
     }
 }
 
-// Inner: the multisets made so far, at their places: their rows, their least ends, and by which entry each end came. An
-// entry is one number, 8 * i + q for place i and role q, as it lies in rows of eight numbers a multiset. Their own
-// struct: while a level is made, the invariant of `LevelTables` doesn't hold.
+// Inner: the multisets reached so far, at their places: their least ends, and by which entry each end came. An entry is
+// one number, 8 * i + q for place i and role q, as it lies in rows of eight numbers a multiset. Their own struct: while
+// a level is made, the invariant of `LevelTables` doesn't hold.
 #[derive(Drop)]
-pub struct Reached<const ROWS: usize, const PLACES: usize> {
-    pub rows: [u16; ROWS],
+pub struct Reached<const PLACES: usize> {
     pub ends: [u8; PLACES],
     pub from: [u16; PLACES],
 }
 
-impl<const ROWS: usize, const PLACES: usize> Reached<ROWS, PLACES> {
-    // What the multiset at place i leads to with each role more; `next` is its rank's place in the next level.
+impl<const PLACES: usize> Reached<PLACES> {
+    // What the multiset at place i leads to with each role more; `next` is its rank's place in the next level. Kept out
+    // of line: taken into the loops, it is short of registers.
+    #[inline(never)]
     fn push(&mut self, users: &Users, up: &[u16], i: usize, next: usize)
         requires { Pushing users.now.d users.now.nexts up.now i next self.old.ends self.old.from }
-        ensures { Filled users.now.d users.now.nexts (8 * i + 8) self.new.ends self.new.from
-            × (self.new.rows ≡ self.old.rows) }
+        ensures { Filled users.now.d users.now.nexts (8 * i + 8) self.new.ends self.new.from }
     {
         let end = self.ends[i];
         // no end, as `ends` has it
@@ -93,57 +126,61 @@ impl<const ROWS: usize, const PLACES: usize> Reached<ROWS, PLACES> {
         }
     }
 
-    // Multisets of n + 1 roles whose largest is r: their rows, and what they lead to. Kept out of line: taken in, the
-    // compiler makes the rows number by number.
-    #[inline(never)]
-    fn block(&mut self, users: &Users, n: usize, r: usize)
-        requires { (n ≤ 4) × (r < users.now.d)
-            × GrownTo users.now (first users.now.d (suc n) + starts (suc n) r) self.old }
-        ensures { GrownTo users.now (first users.now.d (suc n) + starts (suc n) (suc r)) self.new }
+    // From the multisets of n roles, by their rows.
+    fn by_rows(&mut self, users: &Users, t: &[u16], n: usize)
+        requires { (n ≤ 4) × Rows users.now.d (first users.now.d (suc n)) t.now
+            × LedOn users.now (first users.now.d n) self.old }
+        ensures { LedOn users.now (first users.now.d (suc n)) self.new }
     {
-        let less = first_in(users.d, n);
-        let here = first_in(users.d, n + 1) + start_in(n + 1, r);
-        let next = first_in(users.d, n + 2) + start_in(n + 1, r);
-        let fixed = fixed_steps(n, r);
+        let here = first_in(users.d, n);
+        let count = start_in(n, users.d);
+        // A multiset is a number here, and each changes the tables.
+        for m in 0..count {
+            let at = 8 * (here + m);
+            self.push(users, &t[at..at + 8], here + m, here + count + m);
+        }
+    }
+
+    // From the multisets of five roles whose largest is r: their rows are made and not kept. Out of line, as
+    // `add_block` is.
+    #[inline(never)]
+    fn block(&mut self, users: &Users, t: &[u16], r: usize)
+        requires { (r < users.now.d) × Rows users.now.d (first users.now.d 6) t.now
+            × LedOn users.now (first users.now.d 5 + starts 5 r) self.old }
+        ensures { LedOn users.now (first users.now.d 5 + starts 5 (suc r)) self.new }
+    {
+        let less = first_in(users.d, 4);
+        let here = first_in(users.d, 5) + start_in(5, r);
+        let next = first_in(users.d, 6) + start_in(5, r);
+        let fixed = fixed_steps(4, r);
         let kept = kept_steps(r);
-        // A multiset is a number here, and its row goes into the tables that the next ones read.
-        for j in 0..start_in(n, r + 1) {
-            let up = ups_of(&self.rows, 8 * (less + j), &fixed, &kept);
-            keep_row(&mut self.rows, n + 1, 8 * (here + j), &up);
+        for j in 0..start_in(4, r + 1) {
+            let up = ups_of(t, 8 * (less + j), &fixed, &kept);
             self.push(users, &up, here + j, next + j);
         }
     }
 
-    // From the multisets of n + 1 roles.
-    fn level(&mut self, users: &Users, n: usize)
-        requires { (n ≤ 4) × GrownTo users.now (first users.now.d (suc n)) self.old }
-        ensures { GrownTo users.now (first users.now.d (suc (suc n))) self.new }
+    // From the multisets of five roles.
+    fn by_blocks(&mut self, users: &Users, t: &[u16])
+        requires { Rows users.now.d (first users.now.d 6) t.now
+            × LedOn users.now (first users.now.d 5) self.old }
+        ensures { LedOn users.now (first users.now.d 6) self.new }
     {
-        // A role is a number here, and each block changes the tables.
         for r in 0..users.d {
-            self.block(users, n, r);
+            self.block(users, t, r);
         }
     }
 
-    // From the empty multiset.
-    fn none(&mut self, users: &Users)
-        requires { GrownTo users.now (first users.now.d 0) self.old }
-        ensures { GrownTo users.now (first users.now.d 1) self.new }
+    // Inner: the least ends of the multisets of n + 1 roles, from those of n and their rows.
+    pub fn grow(&mut self, users: &Users, t: &[u16], n: usize)
+        requires { (n ≤ 5) × Rows users.now.d (first users.now.d (suc n)) t.now
+            × LedOn users.now (first users.now.d n) self.old }
+        ensures { LedOn users.now (first users.now.d (suc n)) self.new }
     {
-        let up = [0u16, 1, 2, 3, 4, 5, 6, 7];
-        keep_row(&mut self.rows, 0, 0, &up);
-        self.push(users, &up, 0, 1);
-    }
-
-    // Inner: the least ends of the multisets of n + 1 roles, from those of n.
-    pub fn grow(&mut self, users: &Users, n: usize)
-        requires { (n ≤ 5) × GrownTo users.now (first users.now.d n) self.old }
-        ensures { GrownTo users.now (first users.now.d (suc n)) self.new }
-    {
-        if n == 0 {
-            self.none(users);
+        if n == 5 {
+            self.by_blocks(users, t);
             return;
         }
-        self.level(users, n - 1);
+        self.by_rows(users, t, n);
     }
 }

@@ -5,5 +5,5 @@ use native.Mathlib.Omega.{arith}
 use Rattle.seek.specs.Search.{SomeMet}
 
 -- no places meet nothing
-pub some_none : {sums roles by_sum by_set : List ℕ} {x : ℕ} → SomeMet sums roles by_sum by_set x 0 0
+pub some_none : {front : ℕ} {sums roles by_sum by_set : List ℕ} {x : ℕ} → SomeMet front sums roles by_sum by_set x 0 0
 some_none = record { has = λ i b l. absurd (omega arith) }

@@ -1,3 +1,4 @@
 pub mod Search
 pub mod Level
 pub mod Answer
+pub mod Led

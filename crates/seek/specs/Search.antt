@@ -1,7 +1,7 @@
 -- A search of the levels by masks of clauses.
 use Rattle.std.specs.Prelude.{ℕ, ◌+◌, ◌-◌, ◌*◌, ◌^◌, ◌<◌, ◌≤◌, Bool, true, false, ◌&&◌, not, ◌≡◌, List, ◌++◌}
 use Rattle.std.specs.Prelude.{eqb, ltb, length, get_or, replicate, IfSome}
-use Rattle.std.specs.Int.Bits.{bit_and}
+use Rattle.std.specs.Int.Bits.{bit_and, bit_or}
 use Rattle.std.specs.declared.option.Option.{Option}
 use Rattle.std.specs.declared.option.Option.TheVariants.{Some, None}
 use Rattle.folds.specs.Sets.{in_set}
@@ -19,22 +19,28 @@ met_by row by_sum by_set sum set = not (eqb (bit_and (bit_and row (get_or by_sum
 abbrev pub by_masks : List ℕ → List ℕ → List ℕ → ℕ → ℕ → ℕ → Bool
 by_masks rows by_sum by_set n = met_by (get_or rows n 0) by_sum by_set
 
--- the lengths of the tables by place, and of the masks by sum and by set
-pub record Tables (room : ℕ) (ends sums roles by_sum by_set : List ℕ) : Type 0 where
+-- the same with roles in front
+abbrev pub met_beside : ℕ → ℕ → List ℕ → List ℕ → ℕ → ℕ → Bool
+met_beside front row by_sum by_set sum set = met_by row by_sum by_set sum (bit_or front set)
+
+-- the lengths of the tables by place and of the masks by set; and there is a mask for the sum of each place from `from`
+-- on
+pub record Tables (from room : ℕ) (ends sums roles by_sum by_set : List ℕ) : Type 0 where
   pub ends_room : room ≤ length ends
   pub sums_room : room ≤ length sums
   pub roles_room : room ≤ length roles
-  pub sum_masks : length by_sum ≡ 256
+  pub sum_masks : (x : ℕ) → from ≤ x → x < room → get_or sums x 0 < length by_sum
   pub set_masks : length by_set ≡ 256
 
 -- place x is reached, and its sum and set meet the condition
 abbrev pub met_at : List ℕ → List ℕ → List ℕ → (ℕ → ℕ → Bool) → ℕ → Bool
 met_at ends sums roles met x = met (get_or sums x 0) (get_or roles x 0) && ltb (get_or ends x 0) 255
 
--- a set of clauses with all that the sum and the set of one of the first n places from x on meet
-pub record SomeMet (sums roles by_sum by_set : List ℕ) (x n all : ℕ) : Type 0 where
+-- a set of clauses with all that the sum and the set, with the roles in front, of one of the first n places from x on
+-- meet
+pub record SomeMet (front : ℕ) (sums roles by_sum by_set : List ℕ) (x n all : ℕ) : Type 0 where
   pub has : (i b : ℕ) → i < n → in_set (get_or by_sum (get_or sums (x + i) 0) 0) b ≡ true →
-      in_set (get_or by_set (get_or roles (x + i) 0) 0) b ≡ true → in_set all b ≡ true
+      in_set (get_or by_set (bit_or front (get_or roles (x + i) 0)) 0) b ≡ true → in_set all b ≡ true
 
 -- x is a place from `from` to before `end` that passes the test, or 3,003 where there is none
 pub record FoundIn (test : ℕ → Bool) (from end x : ℕ) : Type 0 where

@@ -7,20 +7,14 @@ use lib.Dec.{ltb}
 use Rattle.std.proofs.lemmas.List.{get_or-take}
 use Rattle.folds.proofs.Bools.{met_or_not}
 use Rattle.multisets.specs.Ranks.{first}
-use Rattle.multisets.specs.Rising.{Entry, bytes_of}
+use Rattle.multisets.specs.Rising.{Entry}
 use Rattle.multisets.specs.Standing.{bytes_back}
 use Rattle.multisets.specs.declared.ends.Users.{Users}
-use Rattle.multisets.specs.Ends.{NextEnds, WayIn, back_of}
-use Rattle.multisets.specs.Values.{Held}
-use Rattle.multisets.specs.Laid.{Laid}
-use Rattle.multisets.proofs.Places.{first_0, first_all}
-use Rattle.seek.specs.Search.{by_masks, Ready, TriedWith, Meets, group_bytes}
+use Rattle.multisets.specs.Ends.{NextEnds, Way, back_of}
+use Rattle.seek.specs.Search.{by_masks, TriedWith, Meets}
 use Rattle.seek.specs.Answer.{AnsweredWith}
+use Rattle.seek.proofs.Groups.{no_sums, back_way, shown_by}
 use Rattle.seek.proofs.search.Goals as goal
-
--- no sums are made yet
-no_sums : {d end : ℕ} {value : ℕ → ℕ → ℕ} {t : List ℕ} → first d 7 ≤ length t → Held d end value t (first d 0)
-no_sums {d} room = record { room = room; each = λ n m few some l. absurd (omega (arith, first_0 d)) }
 
 -- a level's try, of the tables and the rows as they were handed in
 tried_here : (rows by_sum by_set : List ℕ) {users users₁ : Users} {n count placed : ℕ} {w ends from : List ℕ}
@@ -32,26 +26,10 @@ tried_here : (rows by_sum by_set : List ℕ) {users users₁ : Users} {n count p
 tried_here rows by_sum by_set {n = n} {count} low same tried = rw (same, get_or-take count rows n 0 low) at tried
 
 -- the way back from the place found
-back_way : (condition : ℕ → ℕ → Bool) {users users₁ : Users} {end k n at placed : ℕ}
-    {w by_sum by_set t ends from roles sums : List ℕ} →
+way_there : (condition : ℕ → ℕ → Bool) (users : Users) {n at placed : ℕ} {w ends from : List ℕ} →
     ((sets : List ℕ) → NextEnds sets users.nexts → TriedWith sets w placed users.d condition n (Some at) ends from) →
-    users₁ ≡ users → Ready users.d end w users.nexts by_sum by_set →
-    Laid users₁.d k users₁.nexts t ends from roles sums → WayIn ends from n at
-back_way condition {users} tried same ready laid₁ =
-    let d = users.d in
-    let laid = rw same at laid₁ in
-    let one = tried ready.users ready.next_ends in
-    record {
-      room = first d 7;
-      most = first_all d laid.most;
-      ends_room = laid.levels.grown.filled.room;
-      from_room = laid.levels.grown.filled.places;
-      way = (one.tried.found one.some).way;
-    }
-
-shown_by : {n : ℕ} {bytes back : List ℕ} (g : List Entry) → length g ≡ n → bytes_of g ≡ back →
-    bytes ≡ back ++ replicate (12 - 2 * n) 255 → bytes ≡ group_bytes g
-shown_by g many same is = is ∙ rw (← same, ← many) refl
+    (sets : List ℕ) → NextEnds sets users.nexts → Way (first users.d 7) ends from n at
+way_there condition users one sets next = let t = one sets next in (t.tried.found t.some).way
 
 -- where no level before has a place, the group found back is the answer
 answer : (condition : ℕ → ℕ → ℕ → Bool) {d n at last : ℕ} {w nexts ends from bytes : List ℕ} {placed : ℕ} →
@@ -104,7 +82,8 @@ group-group-requires g c =
     let (users, added, tried) = c.in-Some.ensures in
     let m = c.args.masks.now in
     let one = tried_here c.args.rows.now m.sums m.sets (omega arith) i.users tried in
-    (omega arith, back_way _ one (users ∙ i.users) c.requires.2 c.try_level.new.tables.laid)
+    let way = way_there _ c.args.tables.now.users one in
+    (omega arith, back_way way (users ∙ i.users) c.requires.2 c.try_level.new.tables.laid)
 
 pub returns-in-Some : goal.returns-in-Some
 returns-in-Some g c =

@@ -7,7 +7,7 @@ use Rattle.seek.proofs.Eights.{found_behind}
 use Rattle.seek.proofs.Level.meeting.Goals as goal
 
 pub returns : goal.returns
-returns c =
+returns g c =
     let a = c.args in
     let found = c.find_map-found in
     let nothing = sym c.is_some.ensures ∙ c.if-is_some.false in

@@ -150,21 +150,18 @@ loop-q-init g c =
     let none : c.into_iter-q-iterator.result.count ≡ 0 = cc in
     let e : 8 * c.args.i + c.into_iter-q-iterator.result.count ≡ 8 * c.args.i = omega arith in
     record {
-      turn = record {
-        within = omega arith;
-        filled = rw e c.requires.filled;
-        stays = refl;
-        reached = omega arith;
-        left = rw none (cc);
-        left_up = rw none (cc);
-      };
-      rows = refl;
+      within = omega arith;
+      filled = rw e c.requires.filled;
+      stays = refl;
+      reached = omega arith;
+      left = rw none (cc);
+      left_up = rw none (cc);
     }
 
 pub overflow_add-next : goal.overflow_add-next
 overflow_add-next g c =
     let table = c.behind-row.ensures.table in
-    let l = target_lt c.args.users.now.most c.requires table c.loop-q.invariant.turn c.in-Some.ensures.steps.0 in
+    let l = target_lt c.args.users.now.most c.requires table c.loop-q.invariant c.in-Some.ensures.steps.0 in
     omega (arith, l, first_all _ c.args.users.now.most)
 
 pub overflow_mul-i : goal.overflow_mul-i
@@ -175,20 +172,20 @@ overflow_add-i g c =
     let (cut, is, next, fits) = c.in-Some.ensures.steps in
     let table = c.behind-row.ensures.table in
     let most = c.args.users.now.most in
-    omega (arith, role most c.requires table c.loop-q.invariant.turn cut, most, place_few most c.requires)
+    omega (arith, role most c.requires table c.loop-q.invariant cut, most, place_few most c.requires)
 
 pub overflow_cast-i : goal.overflow_cast-i
 overflow_cast-i g c =
     let (cut, is, next, fits) = c.in-Some.ensures.steps in
     let table = c.behind-row.ensures.table in
     let most = c.args.users.now.most in
-    omega (arith, role most c.requires table c.loop-q.invariant.turn cut, most, place_few most c.requires)
+    omega (arith, role most c.requires table c.loop-q.invariant cut, most, place_few most c.requires)
 
 pub relax-requires : goal.relax-requires
 relax-requires g c =
-    let f = c.loop-q.invariant.turn.filled in
+    let f = c.loop-q.invariant.filled in
     let table = c.behind-row.ensures.table in
-    let l = target_lt c.args.users.now.most c.requires table c.loop-q.invariant.turn c.in-Some.ensures.steps.0 in
+    let l = target_lt c.args.users.now.most c.requires table c.loop-q.invariant c.in-Some.ensures.steps.0 in
     (omega (arith, l, f.room), omega (arith, l, f.places))
 
 pub loop-q-preserved : goal.loop-q-preserved
@@ -196,17 +193,14 @@ loop-q-preserved g c =
     let (cut, is, next, fits) = c.in-Some.ensures.steps in
     let table = c.behind-row.ensures.table in
     let most = c.args.users.now.most in
-    record {
-      turn = turn_more most c.requires table c.loop-q.invariant.turn cut is next c.relax.ensures;
-      rows = c.loop-q.invariant.rows;
-    }
+    turn_more most c.requires table c.loop-q.invariant cut is next c.relax.ensures
 
 pub returns : goal.returns
 returns g c =
     let p = c.requires in
     let table = c.behind-row.ensures.table in
-    let turn = c.loop-q.invariant.turn in
+    let turn = c.loop-q.invariant in
     let most = c.args.users.now.most in
     let steps = c.in-None.ensures.steps.0 in
     let done = ⊎_elim (λ r. row_done most p table turn r.1.0) (λ r. ups_done most p table turn r.1.0) steps in
-    (led_on most p table turn done, c.loop-q.invariant.rows)
+    led_on most p table turn done

@@ -18,8 +18,6 @@ pub record Turn (d : ℕ) (nexts up : List ℕ) (i end q : ℕ) (rest rest_up en
 
 abbrev pub invariant-loop-q : goal.invariant-loop-q
 invariant-loop-q g l =
-    let items = l.q-iterator in record {
-      turn : Turn l.users.d l.users.nexts l.up l.i l.end items.count items.iter.a.rest.now items.iter.b.rest.now
-          l.self.ends l.self.from;
-      rows : l.self.rows ≡ l.initial.self.rows;
-    }
+    let items = l.q-iterator in
+    Turn l.users.d l.users.nexts l.up l.i l.end items.count items.iter.a.rest.now items.iter.b.rest.now l.self.ends
+    l.self.from
