@@ -1,32 +1,26 @@
 -- The entries of a group put one behind the other, from the first on.
-use Prim.Native.Nat.{ℕ, suc, ◌+◌, ◌*◌, ◌<◌, ◌≤◌}
+use Prim.Native.Nat.{ℕ, suc, ◌+◌, ◌<◌, ◌≤◌}
 use mathlib.Core.Path.{◌≡◌, refl, sym, ap, ◌∙◌}
 use mathlib.Core.List.{List, [], ◌∷◌, ◌++◌, append-nil, append_assoc}
 use native.Mathlib.Omega.{arith}
 use lib.ListN.{length, get_or, length-append}
 use Rattle.folds.specs.Below.{join_below}
 use Rattle.folds.proofs.Lists.{join_first, join_same}
-use Rattle.decision.specs.Groups.{entry_count, entry_user, entry_role}
+use Rattle.decision.specs.Groups.{entry_count}
+use Rattle.decision.proofs.Front.{front_count, later_user, later_role}
 use Rattle.release_list.specs.Text.{entry_at, entry_text}
 use Rattle.release_list.specs.Writing.{Written, standing_text}
 use Rattle.release_list.proofs.Stores.{joined, room_behind}
 
 -- an entry, and those behind it
 module _ (u r : ℕ) (l : List ℕ) where
-  later_user : (i : ℕ) → entry_user (u ∷ r ∷ l) (suc i) ≡ entry_user l i
-  later_user i = let e : 2 * suc i ≡ suc (suc (2 * i)) = omega arith in rw e
-
-  later_role : (i : ℕ) → entry_role (u ∷ r ∷ l) (suc i) ≡ entry_role l i
-  later_role i = let e : 2 * suc i + 1 ≡ suc (suc (2 * i + 1)) = omega arith in rw e
-
   later_at : (i : ℕ) → entry_at (u ∷ r ∷ l) (suc i) ≡ entry_at l i
-  later_at i = rw (later_user i, later_role i)
+  later_at i = rw (later_user u r l i, later_role u r l i)
 
   standing_first : standing_text (u ∷ r ∷ l) ≡ entry_text u r ++ standing_text l
   unfolding standing_text
   standing_first =
-      let n : entry_count (u ∷ r ∷ l) ≡ suc (entry_count l) = omega arith in
-      ap (λ (k : ℕ). join_below k (entry_at (u ∷ r ∷ l))) n
+      ap (λ (k : ℕ). join_below k (entry_at (u ∷ r ∷ l))) (front_count u r l)
       ∙ join_first (entry_at (u ∷ r ∷ l)) (entry_count l)
       ∙ ap (λ (m : List ℕ). entry_text u r ++ m) (join_same _ (entry_at l) (entry_count l) (λ i h. later_at i))
 

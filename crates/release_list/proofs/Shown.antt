@@ -61,7 +61,7 @@ module _ (b : List ℕ) (at : Context) (p : ℕ) (g : List ℕ) (shown : ShownFo
   count_is = let e = shown.number in omega arith
 
   shown_rising : Rising g
-  shown_rising = record { rises = λ i j l h. shown.rising i j l (rw (← count_is) h) }
+  shown_rising = record { rises = λ i j l h. shown.rising i j (omega arith) l (rw (← count_is) h) }
 
   shown_few : smallest_of b at p ≤ 6
   shown_few =

@@ -15,9 +15,13 @@ use Rattle.resolution.specs.Resolution.{list_refused, lent}
 use Rattle.resolution.proofs.Lending.{lent_left, lent_refused}
 use Rattle.decision.specs.Decision.{decision_by}
 use Rattle.report.specs.Smallest.{Deciding}
-use Rattle.report.specs.Report.{fitting, report_refusal, report_refusal_lent, releasable, report_answer}
+use Rattle.report.specs.Report.{room, fitting, report_refusal, report_refusal_lent, releasable, report_answer}
 use Rattle.report.specs.Report.{report_bytes, Reported}
 use Rattle.report.specs.Parts.{Filled, FilledBy}
+
+-- 19 doesn't apply in a buffer that suffices
+pub then_room : (b : List ℕ) {n : ℕ} → 13 * permission_count b ≤ n → room b n ≡ 0
+then_room b fits = rw (le-ltb _ _ fits)
 
 module _ (b : List ℕ) (at : Context) (n : ℕ) where
   -- 11, then 19
@@ -34,7 +38,7 @@ module _ (b : List ℕ) (at : Context) (n : ℕ) where
       (in_range, ltb-false _ _ (none_met (ltb n (13 * permission_count b)) 18 past11).0)
 
   pub then_fits : out_of_range at ≡ false → 13 * permission_count b ≤ n → fitting b at n ≡ 0
-  then_fits in_range fits = rw (in_range, le-ltb _ _ fits)
+  then_fits in_range fits = rw in_range (then_room b fits)
 
   -- without a list: 1 to 9, then 11 and 19
   pub refused_base : {r : ℕ} → r ≡ refusal_of b → (r ≡ 0 → ⊥) → report_refusal b at n ≡ r
@@ -60,10 +64,10 @@ module _ (b : List ℕ) (at : Context) (n : ℕ) where
 pub same_range : {x at : Context} → x ≡ at → out_of_range at ≡ false → out_of_range x ≡ false
 same_range same in_range = rw same in_range
 
-module _ (decision : Deciding) (P refusal : ℕ) (out : List ℕ) where
+module _ (from : ℕ) (decision : Deciding) (P refusal : ℕ) (out : List ℕ) where
   -- a refusal carries 0 and writes nothing
   pub reported_refused : {n : ℕ} → refusal ≡ n → (n ≡ 0 → ⊥) →
-      Reported decision P refusal out out (record { refusal = n; count = 0 })
+      Reported from decision P refusal out out (record { refusal = n; count = 0 })
   unfolding report_answer report_bytes
   reported_refused {n} e some = record {
     answer = rw (e, ne_eqb _ _ some);
@@ -73,8 +77,9 @@ module _ (decision : Deciding) (P refusal : ℕ) (out : List ℕ) where
   }
 
   -- otherwise each part stands in the buffer
-  reported_done : {after : List ℕ} {count : ℕ} → refusal ≡ 0 → count ≡ releasable decision P →
-      Filled decision P out after → Reported decision P refusal out after (record { refusal = 0; count = count })
+  pub reported_done : {after : List ℕ} {count : ℕ} → refusal ≡ 0 → count ≡ releasable decision P →
+      Filled from decision P out after →
+      Reported from decision P refusal out after (record { refusal = 0; count = count })
   unfolding report_answer report_bytes
   reported_done e is f = record {
     answer = rw (e, is);
@@ -84,15 +89,15 @@ module _ (decision : Deciding) (P refusal : ℕ) (out : List ℕ) where
   }
 
 -- an answer that is this one
-pub refused_as : {decision : Deciding} {P refusal : ℕ} {out after : List ℕ} {x y : Answer} → x ≡ y →
-    Reported decision P refusal out after y → Reported decision P refusal out after x
+pub refused_as : {from : ℕ} {decision : Deciding} {P refusal : ℕ} {out after : List ℕ} {x y : Answer} → x ≡ y →
+    Reported from decision P refusal out after y → Reported from decision P refusal out after x
 refused_as e reported = rw e reported
 
 -- by the base that was accepted, and the context and the rules that a setting holds
 pub reported_by : (rules b : List ℕ) (at : Context) (refusal : ℕ) (out : List ℕ)
     {passed kept after : List ℕ} {held : Context} {count : ℕ} → refusal ≡ 0 → passed ≡ b → held ≡ at → kept ≡ rules →
-    FilledBy (decision_by kept passed held) (permission_count passed) out after count →
-    Reported (decision_by rules b at) (permission_count b) refusal out after (record { refusal = 0; count = count })
+    FilledBy 0 (decision_by kept passed held) (permission_count passed) out after count →
+    Reported 0 (decision_by rules b at) (permission_count b) refusal out after (record { refusal = 0; count = count })
 reported_by rules b at refusal out e base same listed (is, f) =
-    reported_done (decision_by rules b at) (permission_count b) refusal out e
+    reported_done 0 (decision_by rules b at) (permission_count b) refusal out e
     (rw (base, same, listed) at is) (rw (base, same, listed) at f)

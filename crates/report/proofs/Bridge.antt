@@ -208,12 +208,12 @@ module _ (sets w : List ℕ) where
       }
 
 -- user u may stand in a group in role r
-record MayStand (U R : ℕ) (may : ℕ → ℕ → Bool) (out : ℕ → Bool) (weigh : ℕ → ℕ) (u r : ℕ) : Type 0 where
-  user : u < U
-  role : r < R
-  acting : may u r ≡ true
-  days : out u ≡ false
-  heavy : 0 < weigh r
+pub record MayStand (U R : ℕ) (may : ℕ → ℕ → Bool) (out : ℕ → Bool) (weigh : ℕ → ℕ) (u r : ℕ) : Type 0 where
+  pub user : u < U
+  pub role : r < R
+  pub acting : may u r ≡ true
+  pub days : out u ≡ false
+  pub heavy : 0 < weigh r
 
 module _ {U R : ℕ} {may : ℕ → ℕ → Bool} {out : ℕ → Bool} {weigh : ℕ → ℕ} {sets w : List ℕ}
     (condition : ℕ → ℕ → ℕ → Bool) (tables : Tables U R may out weigh sets w) where

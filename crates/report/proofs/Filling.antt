@@ -12,33 +12,33 @@ use borrow.Rule.Slice.PartMut.{put_mid, post_of, Post-is}
 use lib.Dec.{ltb, eqb}
 use lib.ListN.{length, get_or, take, drop}
 use lib.Seq.{drop-drop, take_at, drop_at}
-use Rattle.folds.specs.Below.{join_below, count_below}
+use Rattle.folds.specs.Below.{join_below}
 use Rattle.folds.proofs.Lists.{join_none, join_more, join_same}
-use Rattle.folds.proofs.Numbers.{count_more}
+use Rattle.folds.proofs.Numbers.{count_none, count_le, count_more}
 use Rattle.report.specs.Smallest.{Deciding, smallest_by}
-use Rattle.report.specs.Report.{ShownFor, part_bytes}
+use Rattle.report.specs.Report.{releasable, ShownFrom, part_bytes}
 use Rattle.report.specs.Parts.{PartFor, Filled}
 use Rattle.report.proofs.Least.{smallest_six}
 use Rattle.report.proofs.Standing.{part_length, parts_length}
 
-module _ (decision : Deciding) where
+module _ (from : ℕ) (decision : Deciding) where
   pub at_most_six : (p : ℕ) → smallest_by decision p ≤ 6
   unfolding smallest_by
   at_most_six p = smallest_six (λ g. eqb (decision p g) 0)
 
-  pub part_13 : (p : ℕ) (g : List ℕ) → ShownFor decision p g → length (part_bytes (smallest_by decision p) g) ≡ 13
+  pub part_13 : (p : ℕ) (g : List ℕ) → ShownFrom from decision p g → length (part_bytes (smallest_by decision p) g) ≡ 13
   part_13 p g s = part_length (smallest_by decision p) g (at_most_six p) s.number
 
   -- the parts of n permissions
   abbrev parts : (ℕ → List ℕ) → ℕ → List ℕ
   parts chosen n = join_below n (λ p. part_bytes (smallest_by decision p) (chosen p))
 
-  pub done_length : (chosen : ℕ → List ℕ) (n : ℕ) → ((p : ℕ) → p < n → ShownFor decision p (chosen p)) →
+  pub done_length : (chosen : ℕ → List ℕ) (n : ℕ) → ((p : ℕ) → p < n → ShownFrom from decision p (chosen p)) →
       length (parts chosen n) ≡ 13 * n
   done_length chosen n shown =
       parts_length (λ p. part_bytes (smallest_by decision p) (chosen p)) n (λ p l. part_13 p (chosen p) (shown p l))
 
-  pub filled_none : (out : List ℕ) → Filled decision 0 out out
+  pub filled_none : (out : List ℕ) → Filled from decision 0 out out
   filled_none out = record {
     chosen = λ p. [];
     shown = λ p l. absurd (not-suc-le-zero l);
@@ -68,8 +68,8 @@ module _ (decision : Deciding) where
           (λ q. part_bytes (smallest_by decision q) (chosen q)) p
           (λ q l. ap (λ (x : List ℕ). part_bytes (smallest_by decision q) x) (also_other chosen p g q l))
 
-  pub filled_more : (p : ℕ) (was out part : List ℕ) → Filled decision p was out → PartFor decision p part →
-      13 * p + 13 ≤ length out → Filled decision (p + 1) was (put_mid (13 * p) (13 * p + 13 - 13 * p) out part)
+  pub filled_more : (p : ℕ) (was out part : List ℕ) → Filled from decision p was out → PartFor from decision p part →
+      13 * p + 13 ≤ length out → Filled from decision (p + 1) was (put_mid (13 * p) (13 * p + 13 - 13 * p) out part)
   filled_more p was out part f this fit = record {
     chosen = also f.chosen p this.group;
     shown = λ q l. ⊎_elim
@@ -91,11 +91,20 @@ module _ (decision : Deciding) where
         rw (front, post, next, more) (sym (append_assoc done part (drop e was)));
   }
 
+  -- of the first p permissions at most p are counted
+  pub count_few : (p : ℕ) → releasable decision p ≤ p
+  unfolding releasable
+  count_few = count_le (λ q. ltb 0 (smallest_by decision q))
+
+  pub count_start : 0 ≡ releasable decision 0
+  unfolding releasable
+  count_start = sym (count_none (λ q. ltb 0 (smallest_by decision q)))
+
   -- the count with one permission more
-  pub count_part : (p : ℕ) (part : List ℕ) (count more : ℕ) → PartFor decision p part →
-      count ≡ count_below p (λ q. ltb 0 (smallest_by decision q)) →
-      more ≡ cond (ltb 0 (get_or part 0 0)) 1 0 →
-      count + more ≡ count_below (p + 1) (λ q. ltb 0 (smallest_by decision q))
+  pub count_part : (p : ℕ) (part : List ℕ) (count more : ℕ) → PartFor from decision p part →
+      count ≡ releasable decision p →
+      more ≡ cond (ltb 0 (get_or part 0 0)) 1 0 → count + more ≡ releasable decision (p + 1)
+  unfolding releasable
   count_part p part count more this e f =
       let k : get_or part 0 0 ≡ smallest_by decision p = ap (λ (l : List ℕ). get_or l 0 0) this.bytes in
       rw (e, f, k) (sym (count_more (λ q. ltb 0 (smallest_by decision q)) p))

@@ -14,11 +14,14 @@ use lib.Seq.{drop-cons}
 use Rattle.folds.specs.Below.{any_below, first_below}
 use Rattle.folds.proofs.Bools.{met_or_not, never_met, clash}
 use Rattle.folds.proofs.Tests.{any_found, any_some, first_least, first_lt, first_at}
+use Rattle.reader.specs.Rules.{refusal_of}
+use Rattle.reader.specs.Tables.{role_count, user_count}
 use Rattle.reader.proofs.Frame.{roles_range, users_le}
 use Rattle.reader.proofs.Accepted.{accepted_frame}
 use Rattle.weights.specs.declared.Context.{Context}
 use Rattle.decision.specs.Decision.{decision_by}
 use Rattle.decision.specs.Groups.{entry_count}
+use Rattle.decision.specs.Granting.{Granted}
 use Rattle.decision.proofs.Granting.{granted_by}
 use Rattle.report.specs.Smallest.{some_granted, smallest}
 
@@ -181,17 +184,31 @@ bytes_of t n e user role i l =
     odd : (i % 2 ≡ 0 → ⊥) → get_or t (2 * (i / 2) + 1) 0 < 256 → get_or t i 0 < 256
     odd z h = let q : 2 * (i / 2) + 1 ≡ i = omega (arith, pos_of_ne-zero z) in rw q at h
 
+-- a granted group is one, where there are at most 256 users and roles
+module _ {U R : ℕ} {may : ℕ → ℕ → Bool} {out : ℕ → Bool} {weigh : ℕ → ℕ} {condition : ℕ → ℕ → ℕ → Bool} (t : List ℕ)
+    (w : Granted U R may out weigh condition t) where
+  pub granted_whole : (n : ℕ) × (1 ≤ n) × (n ≤ 6) × (length t ≡ 2 * n)
+  granted_whole = (entry_count t, w.some, w.few, w.whole)
+
+  pub granted_byte : U ≤ 256 → R ≤ 256 → (i : ℕ) → i < length t → get_or t i 0 < 256
+  granted_byte users roles =
+      bytes_of t (entry_count t) w.whole (λ j l. let k = w.user j l in omega arith)
+      (λ j l. let k = w.role j l in omega arith)
+
+-- the numbers of users and roles of an accepted base are bytes
+pub counts_bytes : (b : List ℕ) → refusal_of b ≡ 0 → (user_count b ≤ 256) × (role_count b ≤ 256)
+counts_bytes b ok =
+    let f = accepted_frame b ok in
+    let U = users_le b f in
+    let R = (roles_range b f).1 in
+    (omega arith, omega arith)
+
 -- the decision grants only such groups, by any rules
 pub of_decision : (rules b : List ℕ) (at : Context) (p : ℕ) → OfBytes (λ g. eqb (decision_by rules b at p g) 0)
 of_decision rules b at p = record {
-  whole = λ t h.
-      let w = ((granted_by rules b at p t).0 (eqb-true _ _ h)).3 in
-      (entry_count t, w.some, w.few, w.whole);
+  whole = λ t h. granted_whole t ((granted_by rules b at p t).0 (eqb-true _ _ h)).3;
   byte = λ t h.
       let (ok, _, _, w) = (granted_by rules b at p t).0 (eqb-true _ _ h) in
-      let f = accepted_frame b ok in
-      let U = users_le b f in
-      let R = (roles_range b f).1 in
-      bytes_of t (entry_count t) w.whole (λ j l. let k = w.user j l in omega arith)
-      (λ j l. let k = w.role j l in omega arith);
+      let (users, roles) = counts_bytes b ok in
+      granted_byte t w users roles;
 }

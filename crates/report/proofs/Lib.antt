@@ -5,6 +5,7 @@ pub mod Filling
 pub mod InDate
 pub mod Least
 pub mod Part
+pub mod Room
 pub mod Shown
 pub mod Standing
 pub mod Turned

@@ -33,14 +33,20 @@ use Rattle.std.specs.Prelude.{Option, Some, None, MatchOption}
 use Rattle.seek.specs.declared.Found.{Found}
 use Rattle.seek.specs.Search.{Answered}
 use Rattle.seek.specs.Answer.{AnsweredWith}
+use Rattle.masks.specs.declared.Placed.{Placed}
 use Rattle.masks.specs.Sets.{RoleCounts}
 use Rattle.masks.proofs.Made.{checked}
-use Rattle.fewest.specs.Search.{holds_with, Seeking}
+use Rattle.fewest.specs.Search.{nobody, holds_with, Seeking}
 use Rattle.report.specs.Parts.{SetsInDate, PartFor}
 use Rattle.report.proofs.Bridge.{Tables}
 use Rattle.report.proofs.InDate.{in_set_in_date}
 use Rattle.report.proofs.Least.{of_decision}
-use Rattle.report.proofs.Shown.{nobody, Shown, shown_none, shown_found}
+use Rattle.report.proofs.Shown.{Shown, shown_none, shown_found}
+
+-- what the search is handed, by the same table K and the same number of roles
+pub same_seeking : {k k' w counts : List ℕ} {start : Placed} {d d' : ℕ} → k ≡ k' → d ≡ d' →
+    Seeking k' w start d' counts → Seeking k w start d counts
+same_seeking table roles s = rw (table, roles) s
 
 -- a test that implies two others is all three
 with_both : (a b c : Bool) → (c ≡ true → (a ≡ true) × (b ≡ true)) → c ≡ (a && (b && c))
@@ -59,7 +65,7 @@ module _ (rules b : List ℕ) (at : Context) (p : ℕ) (ok : refusal_of b ≡ 0)
   stands_known u r h = let k = acting_known b u r (and_left _ _ h) in (lt-ltb _ _ k.0, lt-ltb _ _ k.1)
 
   -- the sets of a base say who may act in which role and is in date
-  acting_is : (sets : List ℕ) → SetsInDate b at sets → (u r : ℕ) → r < 8 →
+  pub acting_is : (sets : List ℕ) → SetsInDate b at sets → (u r : ℕ) → r < 8 →
       in_set (get_or sets u 0) r ≡ (ltb u (user_count b) && (ltb r (role_count b) && stands u r))
   acting_is sets are u r low =
       ⊎_elim (λ t. there (ltb-true _ _ t)) (λ t. past (ltb-false _ _ t)) (met_or_not (ltb u 24))
@@ -124,24 +130,24 @@ module _ (rules b : List ℕ) (at : Context) (p : ℕ) (ok : refusal_of b ≡ 0)
     few_roles : role_count b ≤ 8
     few_roles = (roles_range b (accepted_frame b ok)).1
 
-    part_is : {part : List ℕ} → Shown granted part → PartFor (decision_by rules b at) p part
+    part_is : {part : List ℕ} → Shown granted part → PartFor 0 (decision_by rules b at) p part
     unfolding smallest_by
     part_is f = record {
       group = f.group;
-      shown = record { number = f.number; granted = λ l. eqb-true _ _ (f.grants l); rising = f.rising };
+      shown = record { number = f.number; granted = λ l. eqb-true _ _ (f.grants l); rising = λ i j low. f.rising i j };
       bytes = f.bytes;
     }
 
     part_none : {n : ℕ} {bytes : List ℕ} →
         Answered sets w 0 (holds_with (table_of b clauses) p nobody) 6 n bytes → n ≡ 7 →
-        PartFor (decision_by rules b at) p (0 ∷ replicate 12 255)
+        PartFor 0 (decision_by rules b at) p (0 ∷ replicate 12 255)
     part_none a e = part_is
         (shown_none (table_of b clauses) p (tables_of sets w acting are) few_roles granted
         (of_decision rules b at p) is a e)
 
     part_found : {n : ℕ} {bytes : List ℕ} →
         Answered sets w 0 (holds_with (table_of b clauses) p nobody) 6 n bytes → n ≤ 6 →
-        PartFor (decision_by rules b at) p (n ∷ bytes)
+        PartFor 0 (decision_by rules b at) p (n ∷ bytes)
     part_found a few = part_is
         (shown_found (table_of b clauses) p (tables_of sets w acting are) few_roles granted
         (of_decision rules b at p) is a few)
@@ -149,6 +155,6 @@ module _ (rules b : List ℕ) (at : Context) (p : ℕ) (ok : refusal_of b ≡ 0)
     pub part_with : {part : List ℕ} (o : Option Found) →
         AnsweredWith sets w 0 (holds_with (table_of b clauses) p nobody) 6 o →
         MatchOption o (part ≡ 0 ∷ replicate 12 255) (λ f. part ≡ f.n ∷ f.group) →
-        PartFor (decision_by rules b at) p part
+        PartFor 0 (decision_by rules b at) p part
     part_with None a e = rw e (part_none a.answered refl)
     part_with (Some f) a e = rw e (part_found a.answered a.some)

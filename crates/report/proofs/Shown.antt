@@ -16,17 +16,12 @@ use Rattle.decision.specs.Conditions.{permission_holds}
 use Rattle.decision.specs.Granting.{Granted}
 use Rattle.multisets.specs.Rising.{Entry, entries_sum, entries_roles, bytes_of}
 use Rattle.seek.specs.Search.{Meets, Answered}
-use Rattle.masks.specs.declared.Placed.{Placed}
 use Rattle.report.specs.Smallest.{smallest}
-use Rattle.fewest.specs.Search.{holds_with}
+use Rattle.fewest.specs.Search.{nobody, holds_with}
 use Rattle.report.specs.Report.{part_bytes}
 use Rattle.report.proofs.Bridge.{Tables}
 use Rattle.report.proofs.Turned.{rises_rising, rises_granted, granted_rises, bytes_length}
 use Rattle.report.proofs.Least.{OfBytes, smallest_is, smallest_zero}
-
--- nothing is placed before
-abbrev pub nobody : Placed
-nobody = record { count = 0; sum = 0; roles = 0 }
 
 -- a number, and entries of so many, are a part
 same_part : (n m l : ℕ) (g : List ℕ) → l ≡ n → n ≡ m → n ∷ (g ++ replicate (12 - 2 * l) 255) ≡ part_bytes m g

@@ -1,5 +1,5 @@
 -- The number of users of a group whose users all differ is the number of its entries.
-use Prim.Native.Nat.{ℕ, zero, suc, ◌<◌}
+use Prim.Native.Nat.{ℕ, zero, suc, ◌<◌, ◌≤◌}
 use mathlib.Core.Bool.{Bool, false, ◌||◌, cond, or-false}
 use mathlib.Core.Path.{◌≡◌, refl, sym, ap, ◌∙◌}
 use mathlib.Core.Logic.{⊎_elim}
@@ -11,13 +11,13 @@ use Rattle.folds.specs.Below.{any_below, count_below}
 use Rattle.folds.proofs.Bools.{met_or_not}
 use Rattle.folds.proofs.Tests.{any_each}
 use Rattle.folds.proofs.Numbers.{sum_same, sum_zero, sum_pick}
-use Rattle.reader.proofs.Frame.{users_le}
-use Rattle.reader.proofs.Accepted.{accepted_frame}
 use Rattle.weights.specs.declared.Context.{Context}
 use Rattle.decision.specs.Decision.{decision_by}
 use Rattle.decision.specs.Groups.{entry_count, entry_user}
+use Rattle.decision.specs.Granting.{Granted}
 use Rattle.decision.proofs.Granting.{granted_by}
 use Rattle.report.specs.Demand.{user_num}
+use Rattle.report.proofs.Least.{counts_bytes}
 
 -- a test met by one number more holds of one more
 count_added : (N : ℕ) (p q : ℕ → Bool) (v : ℕ) → v < N → p v ≡ false → ((u : ℕ) → q u ≡ (p u || eqb v u)) →
@@ -52,10 +52,14 @@ pub users_all : (g : List ℕ) → ((i : ℕ) → i < entry_count g → entry_us
 unfolding user_num
 users_all g = count_values 256 (entry_user g) (entry_count g)
 
--- a group granted by any rules has as many users as entries
+-- a granted group has as many users as entries, where there are at most 256 users
+pub users_granted : {U R : ℕ} {may : ℕ → ℕ → Bool} {out : ℕ → Bool} {weigh : ℕ → ℕ} {condition : ℕ → ℕ → ℕ → Bool}
+    (g : List ℕ) → Granted U R may out weigh condition g → U ≤ 256 → user_num g ≡ entry_count g
+users_granted g w few = users_all g (λ i l. let k = w.user i l in omega arith) w.different
+
+-- so has a group granted by any rules
 pub granted_users : (rules b : List ℕ) (at : Context) (p : ℕ) (g : List ℕ) → decision_by rules b at p g ≡ 0 →
     user_num g ≡ entry_count g
 granted_users rules b at p g h =
     let (ok, _, _, w) = (granted_by rules b at p g).0 h in
-    let few = users_le b (accepted_frame b ok) in
-    users_all g (λ i l. let k = w.user i l in omega arith) w.different
+    users_granted g w (counts_bytes b ok).0

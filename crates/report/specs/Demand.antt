@@ -24,26 +24,34 @@ group_for out p = take (2 * number_for out p) (drop (13 * p + 1) out)
 unfoldable pub user_num : List ℕ → ℕ
 user_num g = count_below 256 (λ u. any_below (entry_count g) (λ i. eqb (entry_user g i) u))
 
--- the decision grants some group permission p
-abbrev pub Grantable : Deciding → ℕ → Type 0
-Grantable decision p = (t : List ℕ) × (decision p t ≡ 0)
+-- which permissions are granted which groups
+abbrev pub Granting : Type 1
+Granting = ℕ → List ℕ → Type 0
 
--- demand 3 of a report by a decision on P permissions, of the answer r and the buffer out: groups are all lists of
+-- those that a decision grants
+abbrev pub granted_by : Deciding → Granting
+granted_by decision p g = decision p g ≡ 0
+
+-- some group is granted permission p
+abbrev pub Grantable : Granting → ℕ → Type 0
+Grantable grants p = (t : List ℕ) × grants p t
+
+-- demand 3 of a report of what is granted of P permissions, of the answer r and the buffer out: groups are all lists of
 -- numbers whatever
-pub record Demand3 (decision : Deciding) (P : ℕ) (out : List ℕ) (r : Answer) : Type 0 where
+pub record Demand3 (grants : Granting) (P : ℕ) (out : List ℕ) (r : Answer) : Type 0 where
   pub done : r.refusal ≡ 0
   -- the buffer carries a number and a group for each permission
   pub carries : 13 * P ≤ length out
-  -- the number is zero exactly when the decision grants no group
-  pub zero : (p : ℕ) → p < P → (number_for out p ≡ 0) ↔ (Grantable decision p → ⊥)
+  -- the number is zero exactly when no group is granted
+  pub zero : (p : ℕ) → p < P → (number_for out p ≡ 0) ↔ (Grantable grants p → ⊥)
   -- above zero, the group shown has that many users and is granted
   pub users : (p : ℕ) → p < P → 0 < number_for out p → user_num (group_for out p) ≡ number_for out p
-  pub granted : (p : ℕ) → p < P → 0 < number_for out p → decision p (group_for out p) ≡ 0
+  pub granted : (p : ℕ) → p < P → 0 < number_for out p → grants p (group_for out p)
   -- every group that is granted has at least as many
-  pub least : (p : ℕ) → p < P → (t : List ℕ) → decision p t ≡ 0 → number_for out p ≤ user_num t
+  pub least : (p : ℕ) → p < P → (t : List ℕ) → grants p t → number_for out p ≤ user_num t
   -- the count is the number of permissions for which some group is granted
   pub grantable : ℕ → Bool
-  pub grantable_is : (p : ℕ) → p < P → (grantable p ≡ true) ↔ Grantable decision p
+  pub grantable_is : (p : ℕ) → p < P → (grantable p ≡ true) ↔ Grantable grants p
   pub count : r.count ≡ count_below P grantable
 
 -- what is demanded of the call without a list: demand 3 of `decide`'s answers, where none of refusals 1 to 9, 11 and 19
@@ -51,10 +59,10 @@ pub record Demand3 (decision : Deciding) (P : ℕ) (out : List ℕ) (r : Answer)
 abbrev pub Demanded : List ℕ → Context → List ℕ → List ℕ → Answer → Type 0
 Demanded b at out after r =
     refusal_of b ≡ 0 → out_of_range at ≡ false → 13 * permission_count b ≤ length out →
-    Demand3 (decision_of b at) (permission_count b) after r
+    Demand3 (granted_by (decision_of b at)) (permission_count b) after r
 
 -- and of the call with a list: demand 3 of the answers of `decide_by` to the same list, where 22 doesn't apply either
 abbrev pub DemandedLent : List ℕ → List ℕ → Context → List ℕ → List ℕ → Answer → Type 0
 DemandedLent list b at out after r =
     refusal_of b ≡ 0 → list_refused list ≡ false → out_of_range at ≡ false → 13 * permission_count b ≤ length out →
-    Demand3 (decision_lent list b at) (permission_count b) after r
+    Demand3 (granted_by (decision_lent list b at)) (permission_count b) after r

@@ -1,9 +1,10 @@
 // The 13 bytes of each permission.
-ghost use Rattle.std.specs.Prelude.{◌≡◌, ◌∷◌, ◌*◌, ◌≤◌, ◌<◌, length, replicate, IfSome, MatchOption};
+ghost use Rattle.std.specs.Prelude.{ℕ, ◌≡◌, ◌∷◌, ◌*◌, ◌≤◌, ◌<◌, length, replicate, IfSome, MatchOption};
 ghost use Rattle.reader.specs.Tables.{permission_count, role_count};
 ghost use Rattle.multisets.specs.Ranks.{first};
 ghost use Rattle.weights.specs.Setting.{ActingSets};
-ghost use Rattle.report.specs.Parts.{SetsInDate, PartFor, FilledBy, Settled, decided, GroundsOf, UsersOf};
+ghost use Rattle.report.specs.Smallest.{Deciding};
+ghost use Rattle.report.specs.Parts.{SetsInDate, PartFor, FilledBy, Settled, decided, GroundsOf, UsersOf, Searching};
 
 use masks::Placed;
 use multisets::ends::{self, Nexts};
@@ -27,9 +28,9 @@ fn keep_in_date(base: &Base<'_>, at: Context, sets: &mut [u8; 24])
     }
 }
 
-// For each user in date the set of the roles in which the user may act. Apart from `fill`, or the compiler clears the
-// large tables twice.
-fn sets_in_date(base: &Base<'_>, fixed: Fixed) -> [u8; 24]
+// Inner: for each user in date the set of the roles in which the user may act. Apart from `fill_by_setting`, or the
+// compiler clears the large tables twice.
+pub fn sets_in_date(base: &Base<'_>, fixed: Fixed) -> [u8; 24]
     requires { Settled base.now fixed }
     ensures { SetsInDate base.now fixed.at result }
 {
@@ -38,8 +39,8 @@ fn sets_in_date(base: &Base<'_>, fixed: Fixed) -> [u8; 24]
     sets
 }
 
-// What a report goes by for every permission: the setting, the weights that count, and the sets' numbers of roles. Base
-// and setting stay two values, as beside `Fixed`.
+// Inner: what a report goes by for every permission: the setting, the weights that count, and the sets' numbers of
+// roles. Base and setting stay two values, as beside `Fixed`.
 #[derive(Clone, Copy)]
 pub struct Grounds {
     pub fixed: Fixed,
@@ -47,7 +48,8 @@ pub struct Grounds {
     pub counts: [u8; 256],
 }
 
-fn grounds_of(base: &Base<'_>, fixed: Fixed) -> Grounds
+// Inner: that of an accepted base in a context in range.
+pub fn grounds_of(base: &Base<'_>, fixed: Fixed) -> Grounds
     requires { Settled base.now fixed }
     ensures { (result.fixed ≡ fixed) × GroundsOf base.now result }
 {
@@ -77,54 +79,30 @@ fn part_of(found: Option<Found>) -> [u8; 13]
     part
 }
 
-// The part of a permission, by tables for the base's users and roles.
-fn part_for<const ROWS: usize, const PLACES: usize>(
-    base: &Base<'_>,
-    s: &Grounds,
-    permission: u8,
-    tables: &mut LevelTables<ROWS, PLACES>,
-    masks: &mut Masks,
-) -> [u8; 13]
-    requires { GroundsOf base.now s.now × UsersOf base.now s.now.fixed.at tables.old.users.nexts
-        × (tables.old.users.d ≡ role_count base.now) × (permission < permission_count base.now) }
-    ensures { PartFor (decided base.now s.now.fixed) permission result
-        × (tables.new.users ≡ tables.old.users) }
-{
-    let w = s.chosen.role_weights(s.fixed.juniors, permission);
-    let k = base.part(Table::Clauses);
-    let nobody = Placed {
-        count: 0,
-        sum: 0,
-        roles: 0,
-    };
-    part_of(fewest::fewest(k, permission, w, nobody, &s.counts, tables, masks))
+// Inner: what works out the 13 bytes of one permission after the other.
+pub trait Parts {
+    // Ready to work out those of P permissions by a decision, of groups that stand by rising user from an entry on.
+    ghost ready: { ℕ → Deciding → ℕ → Self → Type 0 };
+
+    // Inner: those of a permission.
+    fn part(&mut self, permission: u8) -> [u8; 13]
+        requires { (from : ℕ) × (decision : Deciding) × (P : ℕ) × (permission < P) × ready from decision P self.old }
+        ensures { (from : ℕ) (decision : Deciding) (P : ℕ) → permission < P → ready from decision P self.old →
+            PartFor from decision permission result × ready from decision P self.new };
 }
 
-// Writes each permission's part; the number of permissions that have a group.
-fn fill_in<const ROWS: usize, const PLACES: usize>(
-    base: &Base<'_>,
-    s: &Grounds,
-    nexts: Nexts,
-    out: &mut [u8],
-) -> u32
-    requires { GroundsOf base.now s.now × UsersOf base.now s.now.fixed.at nexts
-        × (8 * first (role_count base.now) 5 ≤ ROWS) × (first (role_count base.now) 7 ≤ PLACES)
-        × (ROWS ≤ 3960) × (PLACES ≤ 3003)
-        × (13 * permission_count base.now ≤ length out.old) }
-    ensures { FilledBy (decided base.now s.now.fixed) (permission_count base.now) out.old out.new result }
+// Inner: writes each permission's part; the number of permissions that have a group.
+pub fn fill<T: Parts>(parts: &mut T, permissions: u8, out: &mut [u8]) -> u32
+    requires { ((from : ℕ) × (decision : Deciding) × T.ready from decision permissions parts.old)
+        × (13 * permissions ≤ length out.old) }
+    ensures { (from : ℕ) (decision : Deciding) → T.ready from decision permissions parts.old →
+        FilledBy from decision permissions out.old out.new result }
 {
-    let roles = bytes::wide(base.role_count());
-    let mut tables = LevelTables::<ROWS, PLACES>::new(roles, nexts);
-    // Each is written before it is read; filled unlike they are cleared apart, by vectors and not byte by byte.
-    let mut masks = Masks {
-        sums: [0; 256],
-        sets: [u64::MAX; 256],
-    };
     let mut count: u32 = 0;
     // A loop by number and no chain: document 01 asks for each permission's 13 bytes lent on as a mutable part starting
-    // at 13 times its number; and what an adapter's closure returns that changes the tables no proof of this kit knows.
-    for p in 0..base.permission_count() {
-        let part = part_for(base, s, p, &mut tables, &mut masks);
+    // at 13 times its number; and what an adapter's closure returns that changes `parts` no proof of this kit knows.
+    for p in 0..permissions {
+        let part = parts.part(p);
         let at = 13 * bytes::wide(p);
         out[at..at + 13].copy_from_slice(&part);
         count += u32::from(0 < part[0]);
@@ -132,18 +110,74 @@ fn fill_in<const ROWS: usize, const PLACES: usize>(
     count
 }
 
-// Inner: writes each permission's part; the number of permissions that have a group. Fewer roles take smaller tables:
-// the rows of multisets of at most four of them, and the multisets of at most six.
-pub fn fill(base: &Base<'_>, fixed: Fixed, out: &mut [u8]) -> u32
-    requires { Settled base.now fixed × (13 * permission_count base.now ≤ length out.old) }
-    ensures { FilledBy (decided base.now fixed) (permission_count base.now) out.old out.new result }
+// The parts by a search among the base's users and roles. Tables and masks are lent: built within it they would be
+// copied into it.
+#[derive(Drop)]
+struct Search<'a, const ROWS: usize, const PLACES: usize> {
+    base: &'a Base<'a>,
+    grounds: &'a Grounds,
+    tables: &'a mut LevelTables<ROWS, PLACES>,
+    masks: &'a mut Masks,
+    // Lent on, the tables must be of known size.
+    ghost sizes: { (ROWS ≤ 3960) × (PLACES ≤ 3003) },
+}
+
+impl<const ROWS: usize, const PLACES: usize> Parts for Search<'_, ROWS, PLACES> {
+    ghost ready = { λ from decision P s. Searching from decision P s.base.now s.grounds.now s.tables.now.users };
+
+    fn part(&mut self, permission: u8) -> [u8; 13] {
+        let s = self.grounds;
+        let w = s.chosen.role_weights(s.fixed.juniors, permission);
+        let k = self.base.part(Table::Clauses);
+        let nobody = Placed {
+            count: 0,
+            sum: 0,
+            roles: 0,
+        };
+        part_of(fewest::fewest(k, permission, w, nobody, &s.counts, self.tables, self.masks))
+    }
+}
+
+// Writes the parts by a search with tables of one size.
+fn fill_sized<const ROWS: usize, const PLACES: usize>(
+    base: &Base<'_>,
+    grounds: &Grounds,
+    nexts: Nexts,
+    out: &mut [u8],
+) -> u32
+    requires { GroundsOf base.now grounds.now × UsersOf base.now grounds.now.fixed.at nexts
+        × (8 * first (role_count base.now) 5 ≤ ROWS) × (first (role_count base.now) 7 ≤ PLACES)
+        × (ROWS ≤ 3960) × (PLACES ≤ 3003)
+        × (13 * permission_count base.now ≤ length out.old) }
+    ensures { FilledBy 0 (decided base.now grounds.now.fixed) (permission_count base.now) out.old out.new result }
 {
-    let s = grounds_of(base, fixed);
+    let mut tables = LevelTables::<ROWS, PLACES>::new(bytes::wide(base.role_count()), nexts);
+    // Each is written before it is read; filled unlike they are cleared apart, by vectors and not byte by byte.
+    let mut masks = Masks {
+        sums: [0; 256],
+        sets: [u64::MAX; 256],
+    };
+    let mut search = Search {
+        base,
+        grounds,
+        tables: &mut tables,
+        masks: &mut masks,
+    };
+    fill(&mut search, base.permission_count(), out)
+}
+
+// Inner: writes each permission's part by a setting; the number of permissions that have a group. Fewer roles take
+// smaller tables: the rows of multisets of at most four of them, and the multisets of at most six.
+pub fn fill_by_setting(base: &Base<'_>, fixed: Fixed, out: &mut [u8]) -> u32
+    requires { Settled base.now fixed × (13 * permission_count base.now ≤ length out.old) }
+    ensures { FilledBy 0 (decided base.now fixed) (permission_count base.now) out.old out.new result }
+{
+    let grounds = grounds_of(base, fixed);
     let sets = sets_in_date(base, fixed);
     let nexts = ends::next_ends(&sets, base.user_count());
     match base.role_count() {
-        0..=3 => fill_in::<280, 84>(base, &s, nexts, out),
-        4 | 5 => fill_in::<1008, 462>(base, &s, nexts, out),
-        _ => fill_in::<3960, 3003>(base, &s, nexts, out),
+        0..=3 => fill_sized::<280, 84>(base, &grounds, nexts, out),
+        4 | 5 => fill_sized::<1008, 462>(base, &grounds, nexts, out),
+        _ => fill_sized::<3960, 3003>(base, &grounds, nexts, out),
     }
 }
