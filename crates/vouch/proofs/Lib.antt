@@ -1,0 +1,9 @@
+pub mod Stating
+pub mod Granting
+pub mod Granted
+pub mod Demanded
+pub mod Behind
+pub mod Placing
+pub mod Gathering
+pub mod Part
+pub mod Trust

@@ -1,0 +1,7 @@
+pub mod Register
+pub mod Vouching
+pub mod Decision
+pub mod Granting
+pub mod Beside
+pub mod Report
+pub mod Parts
