@@ -8,17 +8,19 @@
  *
  * Answers. Each call takes any bytes whatever and gives one answer: 0 (granted
  * or done), or the number of the first refusal that applies, in the order of
- * enum release_refusal but for 22, which comes after 9, and 24, which comes after
- * 15. A refused call writes nothing, with one exception: a refused opening gives
- * the unsigned sheet for permission 255 in its 14 bytes. Some answers carry a
- * number beside the refusal; it is 0 of every refusal but 18 of release_conflicts
- * and 5 of release_parameter. An answer depends on the arguments alone.
+ * enum release_refusal but for 22, which comes after 9, 25 and 27, which come after
+ * 9 too, in this order, and 24 and 26, which come after 15. A refused call writes
+ * nothing, with one exception: a refused opening gives the unsigned sheet for
+ * permission 255 in its 14 bytes. Some answers carry a number beside the refusal;
+ * it is 0 of every refusal but 18 of release_conflicts and 5 of release_parameter.
+ * An answer depends on the arguments alone.
  *
- * Contexts. Five calls take a context: a minute (0 to 1439), a day of the week (0
+ * Contexts. Seven calls take a context: a minute (0 to 1439), a day of the week (0
  * to 6), a zone (0 to 255) and a date (0 to 65535), in this order, each a number of
- * its own. The date counts days as the first and last days of the base's users do.
- * Which policies are active depends on minute, day and zone; who may approve
- * depends on the date.
+ * its own. The date counts days as the first and last days of the base's users do,
+ * and those of a register's statements. Which policies are active depends on
+ * minute, day and zone; who may approve and which statements are valid depends on
+ * the date.
  *
  * Upgrading. A base whose users have no days is refused by 2, for its letters. The
  * date stands behind the zone in each call with a context; there is no call without
@@ -26,12 +28,13 @@
  * an older header has to be compiled anew.
  *
  * Pointers. A slice passes as a pointer and its length in bytes.
- * - The pointer is valid for that length: base, list and group to read, out to
- *   read and write. It needs no alignment. Nothing beyond the length is read or
- *   written.
+ * - The pointer is valid for that length: base, list, statements (a register) and
+ *   group to read, out to read and write. It needs no alignment. Nothing beyond the
+ *   length is read or written.
  * - With length 0 the pointer may be anything, NULL too: it isn't followed.
  *   With a length above 0 it isn't NULL; nothing checks that.
- * - out overlaps neither base nor list. base, list and group may overlap.
+ * - out overlaps neither base, list nor statements. base, list, statements and
+ *   group may overlap.
  * A sheet passes as a pointer alone.
  * - The pointer is valid for 14 bytes: to read and write for opening, signing
  *   and withdrawing, to read for asking. It needs no alignment, and nothing
@@ -43,12 +46,13 @@
  * when the call has returned.
  *
  * Threads. There is no state between calls and nothing is allocated. Any
- * number of threads may call at once, also with the same base or asking the
- * same sheet, each with a buffer of its own, or a sheet of its own to open, sign
- * or withdraw from.
+ * number of threads may call at once, also with the same base, with the same
+ * register or asking the same sheet, each with a buffer of its own, or a sheet of
+ * its own to open, sign or withdraw from.
  *
- * Stack. release_report and release_report_by take about 30,000 bytes, every
- * other call less than 4,096. A thread with 64 KiB of stack suffices for each.
+ * Stack. release_report, release_report_by and release_vouch_report take about
+ * 30,000 bytes, every other call less than 4,096. A thread with 64 KiB of stack
+ * suffices for each.
  */
 #ifndef RELEASE_H
 #define RELEASE_H
@@ -100,13 +104,22 @@ enum release_rule {
     RELEASE_RULE_SMALLER_WEIGHT = 2
 };
 
+/* A register has up to 256 statements of 8 bytes, in any order: the issuer, who
+   trusts, the requester, who is trusted, the permission and the trust, 1 to 5 (1
+   each), the first day and the last (2 each, little-endian). Both days are among
+   the statement's days. */
+#define RELEASE_STATEMENT_BYTES 8
+#define RELEASE_LONGEST_REGISTER 2048
+
 /* The refusals; each call's comment says which it can give. They are checked in
-   rising order, but for 22, which comes after 9, and 24, which comes after 15: for
-   a decision the order is 1 to 15, 24, 16, 17, for one by a list 1 to 9, 22, 10 to
-   15, 24, 16, 17, for a report by a list 1 to 9, 22, 11, 19, for signing 1 to 9,
-   13, 14, 15, 20, for a bound 1 to 9, 12 to 15, 21. The tables of a base are H
-   (hierarchy), U (users), P (permissions), K (group clauses), C (context clauses),
-   A (policies) and X (exclusions); R is the number of roles. */
+   rising order, but for 22, 25 and 27, which come after 9, and 24 and 26, which
+   come after 15: for a decision the order is 1 to 15, 24, 16, 17, for one by a list
+   1 to 9, 22, 10 to 15, 24, 16, 17, for one by a register 1 to 9, 25, 27, 10 to 15,
+   24, 26, 16, 17, for a report by a list 1 to 9, 22, 11, 19, for one by a register
+   1 to 9, 25, 27, 11, 13, 19, for signing 1 to 9, 13, 14, 15, 20, for a bound 1 to
+   9, 12 to 15, 21. The tables of a base are H (hierarchy), U (users), P
+   (permissions), K (group clauses), C (context clauses), A (policies) and X
+   (exclusions); R is the number of roles. */
 enum release_refusal {
     /* No refusal: granted or done. */
     RELEASE_DONE = 0,
@@ -137,7 +150,8 @@ enum release_refusal {
     RELEASE_REFUSAL_CONTEXT = 11,
     /* The group's length is 0, odd or above 12. */
     RELEASE_REFUSAL_GROUP_LENGTH = 12,
-    /* An entry's user isn't in U, or its role isn't below R. */
+    /* An entry's user isn't in U, or its role isn't below R; of
+       release_vouch_report, the requester isn't in U. */
     RELEASE_REFUSAL_NO_USER_OR_ROLE = 13,
     /* A user stands in two entries; of a signing, its user is on the sheet. */
     RELEASE_REFUSAL_USER_TWICE = 14,
@@ -162,7 +176,16 @@ enum release_refusal {
     /* The user has no entry on the sheet. */
     RELEASE_REFUSAL_NO_SIGNATURE = 23,
     /* The date is before the first or after the last day of an entry's user. */
-    RELEASE_REFUSAL_OUT_OF_DATE = 24
+    RELEASE_REFUSAL_OUT_OF_DATE = 24,
+    /* The register's length isn't a multiple of 8 or exceeds 2,048, or a statement
+       names a user or permission that isn't there, has a trust that isn't 1 to 5
+       or a first day above the last. */
+    RELEASE_REFUSAL_REGISTER = 25,
+    /* An entry but the first has no statement by which its user vouches for the
+       requester. */
+    RELEASE_REFUSAL_NOT_VOUCHED = 26,
+    /* The threshold isn't 1 to 5. */
+    RELEASE_REFUSAL_THRESHOLD = 27
 };
 
 #ifdef __cplusplus
@@ -206,6 +229,30 @@ uint32_t release_decide_by(const uint8_t *base, size_t base_len,
                            const uint8_t *group, size_t group_len);
 
 /*
+ * The decision at a requester's request: 0 if the group is granted the permission,
+ * or the first of refusals 1 to 9, 25, 27, 10 to 15, 24, 26, 16 and 17 that
+ * applies. The first entry of the group is the requester's. The user of each other
+ * entry has to vouch for the requester, by a single statement of the register that
+ * - is from that user, its issuer, to the requester,
+ * - is for the permission,
+ * - is valid on the date, its first and its last day included, and
+ * - has a trust of at least the threshold, which is 1 to 5.
+ * A requester alone needs none. Numbers aren't cut: threshold 257 is refused by 27.
+ * All else is as in release_decide; the order of the entries behind the first
+ * doesn't matter.
+ *
+ * An empty register passes. Statements may stand more than once, and those that the
+ * group has no use for change no answer; but each of them has to keep the rules.
+ */
+uint32_t release_vouch_decide(const uint8_t *base, size_t base_len,
+                              uint32_t permission,
+                              uint32_t minute, uint32_t day, uint32_t zone,
+                              uint32_t date,
+                              const uint8_t *statements, size_t statements_len,
+                              uint32_t threshold,
+                              const uint8_t *group, size_t group_len);
+
+/*
  * The release report: refusal + 256 * count. The refusal is 0, or the first of
  * 1 to 9, 11 and 19 that applies; the count is the number of permissions that
  * some group is granted, and 0 if refused.
@@ -240,6 +287,26 @@ uint64_t release_report_by(const uint8_t *base, size_t base_len,
                            uint32_t date,
                            const uint8_t *list, size_t list_len,
                            uint8_t *out, size_t out_len);
+
+/*
+ * The release report for a requester: refusal + 256 * count. The refusal is 0, or
+ * the first of 1 to 9, 25, 27, 11, 13 and 19 that applies; 13 is that the requester
+ * isn't in U. The number isn't cut: requester 256 is refused by 13. The count is
+ * the number of permissions that some group is granted with the requester first,
+ * and 0 if refused.
+ *
+ * The bytes of out are written as by release_report, for the groups that
+ * release_vouch_decide grants with the requester first, by the same context,
+ * register and threshold. Of a group shown the requester's entry stands first, and
+ * the others follow by rising user. Where the requester's days don't include the
+ * date, every k is 0.
+ */
+uint64_t release_vouch_report(const uint8_t *base, size_t base_len,
+                              uint32_t minute, uint32_t day, uint32_t zone,
+                              uint32_t date,
+                              const uint8_t *statements, size_t statements_len,
+                              uint32_t threshold, uint32_t requester,
+                              uint8_t *out, size_t out_len);
 
 /*
  * The conflict list: refusal + 256 * count. The refusal is 0, or the first of
@@ -363,14 +430,14 @@ uint32_t release_sheet_ask(const uint8_t *base, size_t base_len,
                            const uint8_t *sheet);
 
 /* The refusal in an answer of release_report, release_report_by,
-   release_conflicts, release_bound or release_parameter. */
+   release_vouch_report, release_conflicts, release_bound or release_parameter. */
 static inline uint32_t release_answer_refusal(uint64_t answer) {
     return (uint32_t)(answer % 256);
 }
 
-/* The count in an answer of release_report, release_report_by or
-   release_conflicts, the bound in one of release_bound, or the number tried in
-   one of release_parameter. */
+/* The count in an answer of release_report, release_report_by,
+   release_vouch_report or release_conflicts, the bound in one of release_bound, or
+   the number tried in one of release_parameter. */
 static inline uint32_t release_answer_count(uint64_t answer) {
     return (uint32_t)(answer / 256);
 }

@@ -7,6 +7,8 @@ ghost use Rattle.reader.specs.Refusals.{number_of, answer_from};
 ghost use Rattle.reader.specs.Codes.{parameter_answer};
 ghost use Rattle.report.specs.Report.{answer_of, answer_lent, ReportedOf, ReportedLent};
 ghost use Rattle.report.specs.Demand.{Demanded, DemandedLent};
+ghost use Rattle.vouch.specs.Decision.{decision_vouched};
+ghost use Rattle.vouch.specs.Report.{answer_vouched, ReportedVouched, DemandedVouched};
 ghost use Rattle.conflicts.specs.Conflicts.{conflict_answer, conflict_bytes};
 ghost use Rattle.exports.specs.Contexts.{at};
 ghost use Rattle.exports.specs.Packed.{packed, unpacked};
@@ -114,6 +116,52 @@ pub extern "C" fn release_report_by(
 {
     let at = context(minute, day, zone, date);
     pack(report::report_by(base, at, list, out))
+}
+
+// The vouching decision: 0 where the group is granted and each other entry's user vouches for the first one's, else the
+// first of refusals 1 to 9, 25, 27, 10 to 15, 24, 26, 16 and 17 that applies.
+#[unsafe(no_mangle)]
+pub extern "C" fn release_vouch_decide(
+    base: &[u8],
+    permission: u32,
+    minute: u32,
+    day: u32,
+    zone: u32,
+    date: u32,
+    register: &[u8],
+    threshold: u32,
+    group: &[u8],
+) -> u32
+    ensures { result ≡
+        decision_vouched register.now threshold base.now (at minute day zone date) permission group.now }
+{
+    let at = context(minute, day, zone, date);
+    number(vouch::decide_vouched(base, permission, at, register, threshold, group))
+}
+
+// The vouching report: as the first, but over the groups that the requester leads and the vouching decision grants, and
+// with refusals 25 and 27 after 9, and 13 of the requester after 11. out overlaps neither base nor register.
+#[unsafe(no_mangle)]
+pub extern "C" fn release_vouch_report(
+    base: &[u8],
+    minute: u32,
+    day: u32,
+    zone: u32,
+    date: u32,
+    register: &[u8],
+    threshold: u32,
+    requester: u32,
+    out: &mut [u8],
+) -> u64
+    ensures answer { result ≡
+        packed (answer_vouched register.now threshold base.now (at minute day zone date) requester (length out.old)) }
+    ensures promise { ReportedVouched register.now threshold base.now (at minute day zone date) requester
+        out.old out.new (unpacked result) }
+    ensures demand { DemandedVouched register.now threshold base.now (at minute day zone date) requester
+        out.old out.new (unpacked result) }
+{
+    let at = context(minute, day, zone, date);
+    pack(vouch::report_vouched(base, at, register, threshold, requester, out))
 }
 
 // The conflict list: 0, and the list in out, or the first of refusals 1 to 9 and 18; plus 256 times the count, which
