@@ -1,57 +1,44 @@
-//! The comparison of decisions, by a resolution list or without one.
+//! The comparison of decisions: by a resolution list or without one, and for a
+//! requester by a register.
 
 use model::Reading;
 
+use crate::calls::Decision;
+use crate::hex;
 use crate::lists::List;
 use crate::questions::Asked;
-use crate::{hex, library_context};
+use crate::trust::Trust;
 
-/// The library's answer to a question about a base.
+/// The library's answer to a question about a base, by a list or without one.
 pub fn library_decision(base: &[u8], list: List, asked: &Asked) -> u32 {
-    use release::answers;
-    let Asked {
-        permission, group, ..
-    } = asked;
-    let at = library_context(asked.at);
-    match list {
-        None => answers::decide(base, *permission, at, group),
-        Some(list) => answers::decide_by(base, *permission, at, list, group),
-    }
-}
-
-fn twin_decision(base: &[u8], list: List, asked: &Asked) -> u8 {
-    let Asked {
-        permission,
-        at,
-        group,
-    } = asked;
-    match list {
-        None => twin::decide(base, *permission, *at, group),
-        Some(list) => twin::decide_by(base, *permission, *at, list, group),
-    }
+    Decision::By(list).by_library(base, asked)
 }
 
 /// The answer to a question about a base that the library, the twin and the
 /// model agree on.
 pub fn agreed_decision(base: &[u8], asked: &Asked) -> u8 {
-    agreed(base, None, asked)
+    agreed(base, Decision::By(None), asked)
 }
 
 /// The same by a list.
 pub fn agreed_decision_by(base: &[u8], list: &[u8], asked: &Asked) -> u8 {
-    agreed(base, Some(list), asked)
+    agreed(base, Decision::By(Some(list)), asked)
 }
 
-fn agreed(base: &[u8], list: List, asked: &Asked) -> u8 {
-    let paper = Reading::Paper;
-    let by_model = model::decide_as(paper, base, asked.permission, asked.at, list, &asked.group);
-    let by_library = library_decision(base, list, asked);
-    let by_twin = twin_decision(base, list, asked).into();
-    for (name, answer) in [("library", by_library), ("twin", by_twin)] {
+/// The same for the user of the group's first entry as requester.
+pub fn agreed_decision_vouched(base: &[u8], trust: &Trust, asked: &Asked) -> u8 {
+    agreed(base, Decision::Vouched(trust), asked)
+}
+
+fn agreed(base: &[u8], decision: Decision, asked: &Asked) -> u8 {
+    let by_model = decision.by_model(Reading::Paper, base, asked);
+    let by_library = ("library", decision.by_library(base, asked));
+    let by_twin = ("twin", decision.by_twin(base, asked).into());
+    for (name, answer) in [by_library, by_twin] {
         assert!(
             answer == u32::from(by_model),
             "model {by_model}, {name} {answer}, {}",
-            described(base, list, asked)
+            described(base, decision, asked)
         );
     }
     by_model
@@ -67,31 +54,36 @@ pub fn sums_that_tell(weight: u8) -> Vec<(u8, u8)> {
     vec![(weight - 1, 17), (weight, 0), (weight + 1, 17)]
 }
 
-/// Asserts that all three give this answer.
+/// Asserts that all of them give this answer.
 pub fn expect_decision(base: &[u8], asked: &Asked, answer: u8) {
-    expect(base, None, asked, answer);
+    expect(base, Decision::By(None), asked, answer);
 }
 
 /// The same by a list.
 pub fn expect_decision_by(base: &[u8], list: &[u8], asked: &Asked, answer: u8) {
-    expect(base, Some(list), asked, answer);
+    expect(base, Decision::By(Some(list)), asked, answer);
 }
 
-fn expect(base: &[u8], list: List, asked: &Asked, answer: u8) {
-    let agreed = agreed(base, list, asked);
+/// The same for the user of the group's first entry as requester.
+pub fn expect_decision_vouched(base: &[u8], trust: &Trust, asked: &Asked, answer: u8) {
+    expect(base, Decision::Vouched(trust), asked, answer);
+}
+
+fn expect(base: &[u8], decision: Decision, asked: &Asked, answer: u8) {
+    let agreed = agreed(base, decision, asked);
     assert!(
         agreed == answer,
         "expected {answer}, all gave {agreed}, {}",
-        described(base, list, asked)
+        described(base, decision, asked)
     );
 }
 
-fn described(base: &[u8], list: List, asked: &Asked) -> String {
+fn described(base: &[u8], decision: Decision, asked: &Asked) -> String {
     let Asked {
         permission,
         at,
         group,
     } = asked;
     let (group, base) = (hex(group), hex(base));
-    format!("permission {permission}, {at:?}, list {list:?}, group {group}, base {base}")
+    format!("permission {permission}, {at:?}, {decision:?}, group {group}, base {base}")
 }

@@ -3,6 +3,7 @@
 pub mod acting;
 pub mod bounds;
 pub mod builder;
+pub mod calls;
 pub mod capped;
 pub mod cases;
 pub mod changes;
@@ -29,19 +30,23 @@ pub mod shop;
 pub mod shown;
 pub mod sparse;
 pub mod tally;
+pub mod trust;
 pub mod valid;
+pub mod vouchers;
+pub mod ways;
 pub mod withdrawn;
 
 use lent::Lent;
 use model::Context;
 
 pub use decisions::{
-    agreed_decision, agreed_decision_by, expect_decision, expect_decision_by, library_decision,
-    sums_that_tell,
+    agreed_decision, agreed_decision_by, agreed_decision_vouched, expect_decision,
+    expect_decision_by, expect_decision_vouched, library_decision, sums_that_tell,
 };
 pub use reports::{
-    agreed_report, agreed_report_by, expect_report, expect_report_by, expect_report_by_refused,
-    expect_report_refused, library_report,
+    agreed_report, agreed_report_by, agreed_report_vouched, expect_report, expect_report_by,
+    expect_report_by_refused, expect_report_refused, expect_report_vouched,
+    expect_report_vouched_refused, library_report,
 };
 
 /// The answer to the base check that the library and the model agree on.

@@ -1,33 +1,24 @@
-//! The comparison of reports, by a resolution list or without one.
+//! The comparison of reports: by a resolution list or without one, and for a
+//! requester by a register.
 
 use model::{Answer, Context, Reading};
 
+use crate::calls::Report;
 use crate::lent::Lent;
 use crate::lists::List;
 use crate::random::Random;
 use crate::shown::{self, RECORD};
-use crate::{hex, library_context, permission_count};
+use crate::trust::Trust;
+use crate::{hex, permission_count};
 
-/// The library's answer to a call for the report.
+/// The library's answer to a call for the report, by a list or without one.
 pub fn library_report(
     base: &[u8],
     at: Context,
     list: List,
     out: &mut [u8],
 ) -> release::answers::Answer {
-    use release::answers;
-    let at = library_context(at);
-    match list {
-        None => answers::report(base, at, out),
-        Some(list) => answers::report_by(base, at, list, out),
-    }
-}
-
-fn twin_report(base: &[u8], at: Context, list: List, out: &mut [u8]) -> Answer {
-    match list {
-        None => twin::report(base, at, out),
-        Some(list) => twin::report_by(base, at, list, out),
-    }
+    Report::By(list).by_library(base, at, out)
 }
 
 /// The answer to a call for the report that the library, the twin and the model
@@ -35,30 +26,42 @@ fn twin_report(base: &[u8], at: Context, list: List, out: &mut [u8]) -> Answer {
 /// afterwards, but for the groups shown: those of the library and the twin are
 /// as small as the model's, and library and model grant them.
 pub fn agreed_report(base: &[u8], at: Context, lent: &mut Lent) -> Answer {
-    agreed(base, at, None, lent)
+    agreed(base, at, Report::By(None), lent)
 }
 
 /// The same by a list; the groups shown are granted by the same list.
 pub fn agreed_report_by(base: &[u8], at: Context, list: &[u8], lent: &mut Lent) -> Answer {
-    agreed(base, at, Some(list), lent)
+    agreed(base, at, Report::By(Some(list)), lent)
 }
 
-fn agreed(base: &[u8], at: Context, list: List, lent: &mut Lent) -> Answer {
+/// The same for a requester, who stands first in the groups shown.
+pub fn agreed_report_vouched(
+    base: &[u8],
+    at: Context,
+    trust: &Trust,
+    requester: u32,
+    lent: &mut Lent,
+) -> Answer {
+    agreed(base, at, Report::For { requester, trust }, lent)
+}
+
+fn agreed(base: &[u8], at: Context, report: Report, lent: &mut Lent) -> Answer {
     let (mut models, mut twins) = (lent.clone(), lent.clone());
-    let by_model = model::report_as(Reading::Paper, base, at, list, models.buffer());
-    let by_twin = twin_report(base, at, list, twins.buffer());
+    let by_model = report.by_model(Reading::Paper, base, at, models.buffer());
+    let by_twin = report.by_twin(base, at, twins.buffer());
     let base_before = base.to_vec();
-    let list_before = list.map(<[u8]>::to_vec);
-    let by_library = library_report(base, at, list, lent.buffer());
+    let lent_before = report.lent().to_vec();
+    let by_library = report.by_library(base, at, lent.buffer());
     let case = Case {
         base: &base_before,
         at,
-        list,
+        report,
         length: lent.length(),
     };
-    let library = (by_library.refusal, by_library.count);
-    let twin = (u32::from(by_twin.refusal), by_twin.count);
-    for (name, answer, reported) in [("library", library, lent), ("twin", twin, &mut twins)] {
+    let library = ("library", (by_library.refusal, by_library.count), lent);
+    let answer = (by_twin.refusal.into(), by_twin.count);
+    let twin = ("twin", answer, &mut twins);
+    for (name, answer, reported) in [library, twin] {
         assert!(
             answer == (by_model.refusal.into(), by_model.count),
             "model {by_model:?}, {name} {answer:?}, {}",
@@ -68,8 +71,12 @@ fn agreed(base: &[u8], at: Context, list: List, lent: &mut Lent) -> Answer {
             panic!("{by_model:?}, {name}: {fault}, {}", case.described());
         }
     }
-    let kept = base == base_before && list == list_before.as_deref();
-    assert!(kept, "base or list was written, {}", case.described());
+    let kept = base == base_before && report.lent() == lent_before;
+    assert!(
+        kept,
+        "base, list or register was written, {}",
+        case.described()
+    );
     by_model
 }
 
@@ -77,7 +84,7 @@ fn agreed(base: &[u8], at: Context, list: List, lent: &mut Lent) -> Answer {
 struct Case<'a> {
     base: &'a [u8],
     at: Context,
-    list: List<'a>,
+    report: Report<'a>,
     /// Bytes of the buffer.
     length: usize,
 }
@@ -93,7 +100,7 @@ impl Case<'_> {
         let records = &mut expected.buffer()[..written];
         let shown = &reported.buffer()[..written];
         let smallest = shown::numbers(records);
-        if let Some(fault) = shown::fault(self.base, self.at, self.list, shown, &smallest) {
+        if let Some(fault) = shown::fault(self.base, self.at, self.report, shown, &smallest) {
             return Some(fault);
         }
         records.copy_from_slice(shown);
@@ -105,33 +112,66 @@ impl Case<'_> {
         let Case {
             base,
             at,
-            list,
+            report,
             length,
         } = self;
         let base = hex(base);
-        format!("{length} bytes lent, {at:?}, list {list:?}, base {base}")
+        format!("{length} bytes lent, {at:?}, {report:?}, base {base}")
     }
 }
 
 /// Asserts that the library, the twin and the model give these smallest numbers
 /// in a buffer of this length, whatever it held before.
 pub fn expect_report(base: &[u8], at: Context, length: usize, numbers: &[u8]) {
-    expect(base, at, None, length, done(numbers), numbers);
+    expect(base, at, Report::By(None), length, done(numbers), numbers);
 }
 
 /// The same by a list.
 pub fn expect_report_by(base: &[u8], at: Context, list: &[u8], length: usize, numbers: &[u8]) {
-    expect(base, at, Some(list), length, done(numbers), numbers);
+    expect(
+        base,
+        at,
+        Report::By(Some(list)),
+        length,
+        done(numbers),
+        numbers,
+    );
 }
 
 /// Asserts that the library, the twin and the model refuse to report.
 pub fn expect_report_refused(base: &[u8], at: Context, length: usize, refusal: u8) {
-    expect(base, at, None, length, (refusal, 0), &[]);
+    expect(base, at, Report::By(None), length, (refusal, 0), &[]);
 }
 
 /// The same by a list.
 pub fn expect_report_by_refused(base: &[u8], at: Context, list: &[u8], length: usize, refusal: u8) {
-    expect(base, at, Some(list), length, (refusal, 0), &[]);
+    expect(base, at, Report::By(Some(list)), length, (refusal, 0), &[]);
+}
+
+/// The same for a requester.
+pub fn expect_report_vouched(
+    base: &[u8],
+    at: Context,
+    trust: &Trust,
+    requester: u32,
+    length: usize,
+    numbers: &[u8],
+) {
+    let report = Report::For { requester, trust };
+    expect(base, at, report, length, done(numbers), numbers);
+}
+
+/// Asserts that they refuse to report for a requester.
+pub fn expect_report_vouched_refused(
+    base: &[u8],
+    at: Context,
+    trust: &Trust,
+    requester: u32,
+    length: usize,
+    refusal: u8,
+) {
+    let report = Report::For { requester, trust };
+    expect(base, at, report, length, (refusal, 0), &[]);
 }
 
 /// The answer that carries how many of the numbers are above 0.
@@ -140,16 +180,23 @@ fn done(numbers: &[u8]) -> (u8, u32) {
     (0, releasable.count() as u32)
 }
 
-fn expect(base: &[u8], at: Context, list: List, length: usize, answer: (u8, u32), numbers: &[u8]) {
+fn expect(
+    base: &[u8],
+    at: Context,
+    report: Report,
+    length: usize,
+    answer: (u8, u32),
+    numbers: &[u8],
+) {
     let noise = Lent::noisy(&mut Random::new(length as u64), length);
     let case = Case {
         base,
         at,
-        list,
+        report,
         length,
     };
     for mut lent in [noise.inverted(), noise] {
-        let agreed = agreed(base, at, list, &mut lent);
+        let agreed = agreed(base, at, report, &mut lent);
         assert!(
             (agreed.refusal, agreed.count) == answer,
             "expected {answer:?}, all gave {agreed:?}, {}",

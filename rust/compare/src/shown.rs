@@ -2,8 +2,7 @@
 
 use model::{Context, Reading};
 
-use crate::library_decision;
-use crate::lists::List;
+use crate::calls::Report;
 use crate::questions::Asked;
 
 /// Bytes of a permission's record: k and six entries.
@@ -19,29 +18,28 @@ pub fn numbers(records: &[u8]) -> Vec<u8> {
 }
 
 /// What is wrong with the first of these records, in the order of permissions,
-/// that has a fault. `smallest` has each permission's smallest number. The
-/// report was by a list or without one.
+/// that has a fault. `smallest` has each permission's smallest number.
 pub fn fault(
     base: &[u8],
     at: Context,
-    list: List,
+    report: Report,
     records: &[u8],
     smallest: &[u8],
 ) -> Option<String> {
     let records = records.chunks_exact(RECORD).zip(smallest);
     let mut faults = (0..).zip(records).filter_map(|(permission, (record, k))| {
-        let fault = record_fault(base, at, list, permission, record, *k)?;
+        let fault = record_fault(base, at, report, permission, record, *k)?;
         Some(format!("permission {permission}, {record:?}: {fault}"))
     });
     faults.next()
 }
 
-/// Which smallest group is shown is free. It has to be granted, by the same list
-/// or without one, and stands by rising user.
+/// Which smallest group is shown is free. It has to be granted by the report's
+/// decision, and stands by rising user, behind the requester if there is one.
 fn record_fault(
     base: &[u8],
     at: Context,
-    list: List,
+    report: Report,
     permission: u32,
     record: &[u8],
     smallest: u8,
@@ -53,28 +51,22 @@ fn record_fault(
     if left.iter().any(|byte| *byte != LEFT) {
         return Some("a byte that is left isn't 255");
     }
-    if !rises(group) {
-        return Some("the users don't rise");
+    if !report.is_in_order(group) {
+        return Some("the users don't stand in order");
     }
     let asked = Asked {
         permission,
         at,
         group: group.to_vec(),
     };
-    let by_model = model::decide_as(Reading::Paper, base, permission, at, list, group);
-    if smallest > 0 && by_model != 0 {
+    let decision = report.decision();
+    if smallest > 0 && decision.by_model(Reading::Paper, base, &asked) != 0 {
         return Some("the model doesn't grant the group");
     }
-    if smallest > 0 && library_decision(base, list, &asked) != 0 {
+    if smallest > 0 && decision.by_library(base, &asked) != 0 {
         return Some("the library doesn't grant the group");
     }
     None
-}
-
-/// Each entry's user comes before the next one's.
-fn rises(group: &[u8]) -> bool {
-    let users: Vec<u8> = group.iter().step_by(2).copied().collect();
-    users.windows(2).all(|pair| pair[0] < pair[1])
 }
 
 #[cfg(test)]
@@ -88,7 +80,8 @@ mod tests {
     fn fault_of(start: &[u8], left: u8) -> Option<&'static str> {
         let mut record = [left; RECORD];
         record[..start.len()].copy_from_slice(start);
-        record_fault(&small_shop().bytes(), at_minute(600), None, 0, &record, 2)
+        let (base, at) = (small_shop().bytes(), at_minute(600));
+        record_fault(&base, at, Report::By(None), 0, &record, 2)
     }
 
     #[test]
@@ -109,7 +102,10 @@ mod tests {
     #[test]
     fn users_that_do_not_rise_are_a_fault() {
         for start in [[2, 2, 2, 0, 0], [2, 0, 0, 0, 0]] {
-            assert_eq!(fault_of(&start, 255), Some("the users don't rise"));
+            assert_eq!(
+                fault_of(&start, 255),
+                Some("the users don't stand in order")
+            );
         }
     }
 
@@ -129,7 +125,8 @@ mod tests {
         (shop.policies[1].role, shop.policies[1].issue_day) = (0, 1);
         let mut record = [255; RECORD];
         record[..5].copy_from_slice(&[2, 0, 0, 2, 2]);
-        let fault_by = |list| record_fault(&shop.bytes(), at_minute(600), list, 0, &record, 2);
+        let base = shop.bytes();
+        let fault_by = |list| record_fault(&base, at_minute(600), Report::By(list), 0, &record, 2);
         assert_eq!([None, Some(&[1][..])].map(fault_by), [None; 2]);
         let refused = Some("the model doesn't grant the group");
         assert_eq!(fault_by(Some(&[0])), refused);
@@ -151,7 +148,8 @@ mod tests {
     fn the_first_record_with_a_fault_is_named() {
         let records = [[0; RECORD], [255; RECORD]].concat();
         let base = small_shop().bytes();
-        let fault = fault(&base, at_minute(600), None, &records, &[0, 0]).expect("a fault");
+        let fault = fault(&base, at_minute(600), Report::By(None), &records, &[0, 0]);
+        let fault = fault.expect("a fault");
         assert!(fault.starts_with("permission 0, [0, 0,"), "{fault}");
         assert_eq!(numbers(&records), [0, 255]);
     }

@@ -1,5 +1,5 @@
-//! Compares the tuned twin with the library. Which smallest group a report
-//! shows is free.
+//! Compares the tuned twin with the library, and for a requester with the model
+//! too. Which smallest group a report shows is free.
 
 use compare::bounds::Changed;
 use compare::builder::{BaseBuilder, OLD_LETTERS};
@@ -19,7 +19,10 @@ use compare::rivals::rival_base;
 use compare::sheets::SheetCall;
 use compare::shown::{self, RECORD};
 use compare::sparse::sparse_base;
+use compare::trust::Trust;
 use compare::valid::{random_base, Size};
+use compare::vouchers::{any_requester, loose_trust, trust_for, trust_in};
+use compare::{agreed_decision_vouched, agreed_report_vouched};
 use compare::{library_decision, library_report, permission_count};
 use model::{Base, Context};
 use twin::worst;
@@ -86,6 +89,34 @@ fn compare_decision(random: &mut Random, base: &[u8], asked: &Asked) {
     assert_eq!(u32::from(by_twin), by_library);
 }
 
+/// Asserts that all decide alike for the user of the first entry as requester.
+fn compare_vouched(random: &mut Random, base: &[u8], asked: &Asked) {
+    let trust = match Base::read(base) {
+        Ok(base) => trust_for(random, &base, asked),
+        Err(_) => loose_trust(random),
+    };
+    agreed_decision_vouched(base, &trust, asked);
+}
+
+/// Asserts that all report alike for a requester. Their refusal.
+fn compare_report_vouched(random: &mut Random, base: &[u8], at: Context) -> u8 {
+    let (trust, requester) = any_trust(random, base, at);
+    let whole = RECORD * permission_count(base);
+    let length = random.pick(&[whole, whole, whole + 9, whole.saturating_sub(1)]);
+    let mut lent = Lent::noisy(random, length);
+    agreed_report_vouched(base, at, &trust, requester, &mut lent).refusal
+}
+
+fn any_trust(random: &mut Random, base: &[u8], at: Context) -> (Trust, u32) {
+    match Base::read(base) {
+        Ok(base) => {
+            let requester = any_requester(random, &base);
+            (trust_in(random, &base, at.date, requester), requester)
+        }
+        Err(_) => (loose_trust(random), random.below(30) as u32),
+    }
+}
+
 /// Asserts that the two give the same bound.
 fn compare_bound(base: &[u8], changed: &Changed) {
     assert_eq!(changed.by_twin(base), changed.by_library(base));
@@ -125,6 +156,7 @@ fn seeded_comparison() {
         let image = records.image();
         let at = any_context(&mut random, &records);
         compare_calls(&mut random, &image.bytes, at);
+        compare_report_vouched(&mut random, &image.bytes, at);
         let base = Base::read(&image.bytes).expect("the base passes");
         let mut turned = records.clone();
         turn_days(&mut random, &mut turned);
@@ -134,11 +166,14 @@ fn seeded_comparison() {
         for _ in 0..4 {
             let asked = random_question(&mut random, &records, &base);
             compare_decision(&mut random, &image.bytes, &asked);
+            compare_vouched(&mut random, &image.bytes, &asked);
             let changed = random_change(&mut random, &base);
             compare_bound(&image.bytes, &changed);
             let damaged = any_damage(&mut random, &image);
             compare_calls(&mut random, &damaged, at);
             compare_decision(&mut random, &damaged, &asked);
+            compare_vouched(&mut random, &damaged, &asked);
+            compare_report_vouched(&mut random, &damaged, at);
             compare_bound(&damaged, &changed);
         }
     }
@@ -152,7 +187,10 @@ fn loose_bytes() {
         let at = any_context(&mut random, &BaseBuilder::new(1));
         compare_calls(&mut random, &base, at);
         let permission = any_permission(&mut random, 16);
-        compare_decision(&mut random, &base, &Asked::new(permission, at, &[[0, 0]]));
+        let asked = Asked::new(permission, at, &[[0, 0]]);
+        compare_decision(&mut random, &base, &asked);
+        compare_vouched(&mut random, &base, &asked);
+        compare_report_vouched(&mut random, &base, at);
         compare_bound(&base, &Changed::new(permission, 1, &[[0, 0]]));
         let calls = [
             SheetCall::Open { permission },
@@ -173,6 +211,9 @@ fn worst_bases() {
         for list in [None, Some(&[0, 1, 2][..])] {
             let refusal = compare_report(&mut random, &plan.bytes(), at, list, 16 * RECORD);
             assert_eq!(refusal, 0, "{name}");
+        }
+        for _ in 0..4 {
+            compare_report_vouched(&mut random, &plan.bytes(), at);
         }
     }
 }

@@ -11,11 +11,15 @@ use compare::questions::{at_date, at_minute, random_question, Asked};
 use compare::random::Random;
 use compare::rivals::rival_base;
 use compare::shop::small_shop;
+use compare::trust::{Statement, Trust};
+use compare::vouchers::{any_requester, loose_trust, trust_for, trust_in};
 use compare::{library_context, permission_count};
 use model::{Base, Reading};
 use release::answers::{self, Answer};
 use release::example::SMALL_SHOP;
-use release::{Context, Entry, Permission, Refusal, Report, Resolution, Rule, Sheet, SHEET_BYTES};
+use release::{
+    Context, Entry, Permission, Refusal, Register, Report, Resolution, Rule, Sheet, SHEET_BYTES,
+};
 
 /// A result's refusal as a number, 0 for none.
 fn number<T>(result: &Result<T, Refusal>) -> u32 {
@@ -86,6 +90,94 @@ fn expect_report_by(base: &[u8], at: model::Context, list: &[u8], typed: Option<
     assert_eq!(answer(&written, |count| *count), expected);
     if let Some(resolution) = typed {
         let reported = release::report_by(base, library_context(at), resolution);
+        assert_eq!(answer(&reported, Report::count), expected);
+        if let Ok(report) = reported {
+            assert_eq!(report.bytes(), out);
+            assert_eq!(told(&report), again);
+        }
+    }
+}
+
+/// For a requester, by registers made for the question or the report and by any
+/// bytes: the library's own answers, and the model's.
+fn expect_vouched(random: &mut Random, base: &[u8], asked: &Asked) {
+    let (trust, requester, in_requester) = match Base::read(base) {
+        Ok(base) => {
+            let requester = any_requester(random, &base);
+            let in_requester = trust_in(random, &base, asked.at.date, requester);
+            (trust_for(random, &base, asked), requester, in_requester)
+        }
+        Err(_) => (loose_trust(random), 0, loose_trust(random)),
+    };
+    for trust in [trust, loose_trust(random)] {
+        expect_decision_vouched(base, asked, &trust);
+    }
+    for trust in [in_requester, loose_trust(random)] {
+        expect_report_vouched(base, asked.at, &trust, requester);
+    }
+}
+
+fn expect_decision_vouched(base: &[u8], asked: &Asked, trust: &Trust) {
+    let Asked {
+        permission, group, ..
+    } = asked;
+    let Trust {
+        register,
+        threshold,
+    } = trust;
+    let at = library_context(asked.at);
+    let expected = answers::decide_vouched(base, *permission, at, register, *threshold, group);
+    let by_model = model::decide_vouched(base, *permission, asked.at, register, *threshold, group);
+    assert_eq!(expected, u32::from(by_model));
+    let decided = release::decide_vouched_bytes(base, *permission, at, register, *threshold, group);
+    assert_eq!(number(&decided), expected);
+    let typed = Register::from_bytes(register);
+    assert_eq!(typed.is_some(), register.len() % 8 == 0);
+    let pairs = group.chunks_exact(2);
+    if let (Some(typed), []) = (typed, pairs.remainder()) {
+        expect_same_register(trust, &typed);
+        let group: Vec<Entry> = pairs.map(|pair| Entry::new(pair[0], pair[1])).collect();
+        let by_type = release::decide_vouched(base, *permission, at, &typed, *threshold, &group);
+        assert_eq!(by_type, decided);
+    }
+}
+
+/// The statements that the wrapper reads are those of the bytes.
+fn expect_same_register(trust: &Trust, typed: &Register) {
+    let statements = trust.statements().into_iter();
+    let statements = statements.map(|statement| {
+        let Statement {
+            issuer,
+            requester,
+            permission,
+            trust,
+            first_day,
+            last_day,
+        } = statement;
+        let all_days = release::Statement::new(issuer, requester, permission, trust);
+        all_days.on_days(first_day, last_day)
+    });
+    assert_eq!(statements.collect::<Register>(), *typed);
+}
+
+fn expect_report_vouched(base: &[u8], at: model::Context, trust: &Trust, requester: u32) {
+    let Trust {
+        register,
+        threshold,
+    } = trust;
+    let (threshold, context) = (*threshold, library_context(at));
+    let mut out = vec![0; release::PERMISSION_BYTES * permission_count(base)];
+    let expected = answers::report_vouched(base, context, register, threshold, requester, &mut out);
+    let mut by_model = out.clone();
+    let by_model = model::report_vouched(base, at, register, threshold, requester, &mut by_model);
+    let by_model = (u32::from(by_model.refusal), by_model.count);
+    assert_eq!((expected.refusal, expected.count), by_model);
+    let mut again = vec![7; out.len()];
+    let written =
+        release::report_vouched_into(base, context, register, threshold, requester, &mut again);
+    assert_eq!(answer(&written, |count| *count), expected);
+    if let Some(typed) = Register::from_bytes(register) {
+        let reported = release::report_vouched(base, context, &typed, threshold, requester);
         assert_eq!(answer(&reported, Report::count), expected);
         if let Ok(report) = reported {
             assert_eq!(report.bytes(), out);
@@ -322,6 +414,17 @@ fn by_lists() {
 }
 
 #[test]
+fn by_registers() {
+    let mut random = Random::new(94);
+    let mut compare = |base: &[u8], asked: &Asked| expect_vouched(&mut random, base, asked);
+    lively_bases(95, 200, &mut compare);
+    full_bases(96, 5, &mut compare);
+    valid_bases(97, 50, &mut compare);
+    damaged_bases(98, 50, &mut compare);
+    loose_bytes(99, 500, &mut compare);
+}
+
+#[test]
 fn parameters() {
     random_parameters(92, 10_000, expect_parameter);
     for roles in 0..=9 {
@@ -354,6 +457,11 @@ fn the_shortest_base_and_no_bytes() {
     for base in [BaseBuilder::new(1).bytes(), vec![]] {
         expect_all(&base, &Asked::new(0, at_minute(0), &[]));
         expect_by_lists(&base, &Asked::new(0, at_minute(0), &[]));
+        expect_vouched(
+            &mut Random::new(0),
+            &base,
+            &Asked::new(0, at_minute(0), &[]),
+        );
     }
 }
 

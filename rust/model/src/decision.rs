@@ -8,6 +8,7 @@ use crate::reading::Reading;
 use crate::refusal::{number, refuse_if, Refusal};
 use crate::resolution::Resolution;
 use crate::roles::Role;
+use crate::vouching::Vouching;
 use crate::weight::Situation;
 
 /// 0 if the group is granted the permission, else the first of refusals 1 to
@@ -50,6 +51,8 @@ pub struct Question<'a> {
     /// Each role's weight for the permission.
     weights: Vec<u32>,
     acting: Acting<'a>,
+    /// Where a group's first entry is a requester whom the others vouch for.
+    vouching: Option<&'a Vouching>,
     reading: Reading,
 }
 
@@ -83,15 +86,25 @@ impl<'a> Question<'a> {
             date: at.date,
             weights,
             acting: Acting::by(reading, base),
+            vouching: None,
             reading,
         })
     }
 
-    /// Refusals 12 to 15, 24, 16 and 17, each over all entries before the next.
+    /// The same question of groups that vouch for their first entry's user.
+    pub fn vouched(self, vouching: &'a Vouching) -> Question<'a> {
+        Question {
+            vouching: Some(vouching),
+            ..self
+        }
+    }
+
+    /// Refusals 12 to 15, 24, 26, 16 and 17, each over all entries before the next.
     pub fn ask(&self, group: &[u8]) -> Result<(), Refusal> {
         let group = self.acting.different_users(group)?;
+        let requester = self.requester(&group);
         for refusal in self.refusals_of_entries() {
-            let refused = |entry| self.refuses_entry(refusal, entry);
+            let refused = |entry| self.refuses_entry(refusal, entry, requester);
             refuse_if(group.iter().any(refused), refusal)?;
         }
         refuse_if(
@@ -100,22 +113,54 @@ impl<'a> Question<'a> {
         )
     }
 
+    /// The user of a group's first entry.
+    fn requester(&self, group: &[Entry]) -> u8 {
+        let entry = match self.reading {
+            Reading::LastEntryRequests => group.last(),
+            _ => group.first(),
+        };
+        entry.expect("a group has an entry").user
+    }
+
     /// Those that look at each entry for itself, in order.
-    fn refusals_of_entries(&self) -> [Refusal; 3] {
-        let [role, days, weight] = [Refusal::Membership, Refusal::OutOfDate, Refusal::NoWeight];
+    fn refusals_of_entries(&self) -> [Refusal; 4] {
+        let [role, days] = [Refusal::Membership, Refusal::OutOfDate];
+        let [vouched, weight] = [Refusal::NotVouched, Refusal::NoWeight];
         match self.reading {
-            Reading::DaysBeforeMembership => [days, role, weight],
-            Reading::DaysAfterWeight => [role, weight, days],
-            _ => [role, days, weight],
+            Reading::DaysBeforeMembership => [days, role, vouched, weight],
+            Reading::DaysAfterWeight => [role, vouched, weight, days],
+            Reading::VouchingBeforeDays => [role, vouched, days, weight],
+            Reading::VouchingAfterWeight => [role, days, weight, vouched],
+            _ => [role, days, vouched, weight],
         }
     }
 
-    fn refuses_entry(&self, refusal: Refusal, entry: &Entry) -> bool {
+    fn refuses_entry(&self, refusal: Refusal, entry: &Entry, requester: u8) -> bool {
         match refusal {
             Refusal::Membership => !self.acting.may_act(entry.user, entry.role),
             Refusal::OutOfDate => !self.comes(entry.user),
+            Refusal::NotVouched => !self.may_stand_beside(entry.user, requester),
             _ => self.weight_of(entry) == 0,
         }
+    }
+
+    /// Whether the user is the requester or vouches for the requester; each user
+    /// where nobody has to.
+    fn may_stand_beside(&self, user: u8, requester: u8) -> bool {
+        let needs_none = user == requester && self.reading != Reading::RequesterVouched;
+        needs_none || self.vouches(user, requester)
+    }
+
+    /// Whether a wrong search lets the requester stand among the others again.
+    pub fn stands_again(&self, requester: u8) -> bool {
+        self.reading == Reading::RequesterAgain && self.vouches(requester, requester)
+    }
+
+    fn vouches(&self, user: u8, requester: u8) -> bool {
+        let Some(vouching) = self.vouching else {
+            return true;
+        };
+        vouching.vouches(user, requester, self.permission, self.date)
     }
 
     /// Whether the user's days include the date.
@@ -129,9 +174,9 @@ impl<'a> Question<'a> {
 
     /// Whether a report considers the entry: nothing refuses it for itself.
     fn is_considered(&self, entry: &Entry) -> bool {
-        let passes = |refusal| !self.refuses_entry(refusal, entry);
-        let comes = self.reading == Reading::DaysForgotten || passes(Refusal::OutOfDate);
-        passes(Refusal::Membership) && comes && passes(Refusal::NoWeight)
+        let acts = self.acting.may_act(entry.user, entry.role);
+        let comes = self.reading == Reading::DaysForgotten || self.comes(entry.user);
+        acts && comes && self.weight_of(entry) > 0
     }
 
     pub fn weight(&self, role: Role) -> u32 {
@@ -161,6 +206,13 @@ impl<'a> Question<'a> {
             .filter(|entry| self.is_considered(entry))
     }
 
+    /// Of these, the ones that the user may stand in where the requester stands
+    /// first.
+    pub fn entries_beside(&self, user: u8, requester: u8) -> impl Iterator<Item = Entry> + '_ {
+        let entries = self.entries_of(user);
+        entries.filter(move |entry| self.may_stand_beside(entry.user, requester))
+    }
+
     fn attributes(&self, group: &[Entry]) -> Attributes {
         let nobody = Attributes::default();
         group
@@ -187,6 +239,12 @@ impl<'a> Question<'a> {
 }
 
 impl Base {
+    /// The user with this number, if it is in U.
+    pub fn user(&self, number: u32) -> Option<u8> {
+        let number = u8::try_from(number).ok()?;
+        (usize::from(number) < self.users.len()).then_some(number)
+    }
+
     /// The permission with this number, if it is in P.
     pub fn permission(&self, number: u32) -> Option<u8> {
         let number = u8::try_from(number).ok()?;

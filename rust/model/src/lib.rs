@@ -23,6 +23,7 @@ mod parameter;
 mod reading;
 mod records;
 mod refusal;
+mod register;
 mod related;
 mod release_list;
 mod report;
@@ -34,6 +35,9 @@ mod seniority;
 mod sheet;
 mod signings;
 mod smallest;
+mod smallest_vouched;
+mod vouched;
+mod vouching;
 mod weight;
 
 pub use acting::Acting;
@@ -54,6 +58,7 @@ pub use records::{
     Parameter, Permission, Policy, User,
 };
 pub use refusal::Refusal;
+pub use register::{Register, Statement};
 pub use related::{related_by_trial, Relations};
 pub use release_list::{lines, render};
 pub use report::{report, report_as, report_by};
@@ -66,4 +71,9 @@ pub use sheet::{
 };
 pub use signings::{accepted, standing, Event, Signing};
 pub use smallest::{smallest_by_reach, smallest_by_trial, smallest_group};
+pub use smallest_vouched::{
+    smallest_group_for, smallest_vouched_by_reach, smallest_vouched_by_trial,
+};
+pub use vouched::{decide_vouched, decide_vouched_as, report_vouched, report_vouched_as};
+pub use vouching::Vouching;
 pub use weight::Situation;

@@ -144,6 +144,35 @@ pub enum Reading {
     DaysTurned,
     /// A base may end in the letters that it had before users had days.
     OldLetters,
+    /// A statement's trust has to be above the threshold.
+    TrustAbove,
+    /// A statement's days start behind its first day.
+    FirstDayOfStatement,
+    /// A statement's days end before its last day.
+    LastDayOfStatement,
+    /// A statement counts in either direction.
+    EitherDirection,
+    /// A statement counts for every permission.
+    EveryPermission,
+    /// The trust of one statement counts on the days of another.
+    StatementsJoined,
+    /// The last entry of a group is the requester.
+    LastEntryRequests,
+    /// The requester needs a statement too, one to the requester alone.
+    RequesterVouched,
+    /// A decision is refused by 26 before 24.
+    VouchingBeforeDays,
+    /// A decision is refused by 26 after 16.
+    VouchingAfterWeight,
+    /// A call is refused by 27 before 25.
+    ThresholdFirst,
+    /// A report is refused by 13 before 11.
+    RequesterFirst,
+    /// In a report the requester may stand among the others again, by a statement
+    /// to the requester alone.
+    RequesterAgain,
+    /// A report for a requester has the numbers of the first report.
+    FirstReport,
 }
 
 impl Reading {
@@ -244,6 +273,24 @@ impl Reading {
         Reading::DaysAtSigning,
         Reading::DaysTurned,
         Reading::OldLetters,
+    ];
+
+    /// Wrong readings that only a register shows.
+    pub const WRONG_OF_VOUCHING: [Reading; 14] = [
+        Reading::TrustAbove,
+        Reading::FirstDayOfStatement,
+        Reading::LastDayOfStatement,
+        Reading::EitherDirection,
+        Reading::EveryPermission,
+        Reading::StatementsJoined,
+        Reading::LastEntryRequests,
+        Reading::RequesterVouched,
+        Reading::VouchingBeforeDays,
+        Reading::VouchingAfterWeight,
+        Reading::ThresholdFirst,
+        Reading::RequesterFirst,
+        Reading::RequesterAgain,
+        Reading::FirstReport,
     ];
 }
 

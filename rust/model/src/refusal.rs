@@ -27,6 +27,9 @@ pub enum Refusal {
     Resolution = 22,
     NoSignature = 23,
     OutOfDate = 24,
+    Register = 25,
+    NotVouched = 26,
+    Threshold = 27,
 }
 
 impl Refusal {

@@ -36,7 +36,13 @@ pub fn report_as(
     list: Option<&[u8]>,
     out: &mut [u8],
 ) -> Answer {
-    let groups = match groups_to_show(reading, base, at, list, out.len()) {
+    write_groups(groups_to_show(reading, base, at, list, out.len()), out)
+}
+
+/// Writes a record for each group, and answers how many aren't empty; or the
+/// refusal, which writes nothing.
+pub fn write_groups(groups: Result<Vec<Vec<Entry>>, Refusal>, out: &mut [u8]) -> Answer {
+    let groups = match groups {
         Ok(groups) => groups,
         Err(refusal) => return Answer::refused(refusal),
     };
@@ -62,10 +68,7 @@ fn groups_to_show(
         _ => lent,
     };
     refuse_if(!at.in_range(), Refusal::Context)?;
-    refuse_if(
-        room < RECORD * base.permissions.len(),
-        Refusal::ReportBuffer,
-    )?;
+    refuse_if(room < bytes_for(&base), Refusal::ReportBuffer)?;
     let permissions = 0..base.permissions.len() as u32;
     permissions
         .map(|permission| {
@@ -77,6 +80,11 @@ fn groups_to_show(
             Ok(group.unwrap_or_default())
         })
         .collect()
+}
+
+/// Bytes of a report on the base.
+pub fn bytes_for(base: &Base) -> usize {
+    RECORD * base.permissions.len()
 }
 
 fn record(group: &[Entry]) -> [u8; RECORD] {

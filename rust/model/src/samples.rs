@@ -4,6 +4,7 @@ use crate::base::Base;
 use crate::context::Context;
 use crate::operator::Comparison;
 use crate::records::*;
+use crate::register::Statement;
 use crate::roles::{Role, RoleSet};
 
 /// The small shop: its tables from byte 0, then the trailer.
@@ -155,6 +156,45 @@ pub const LISTS: [&[u8]; 15] = [
     &[2, 1],
     &[2, 1, 0],
 ];
+
+/// A statement of all days for permission 0.
+pub fn statement(issuer: u8, requester: u8, trust: u8) -> Statement {
+    Statement {
+        issuer,
+        requester,
+        permission: 0,
+        trust,
+        first_day: 0,
+        last_day: u16::MAX,
+    }
+}
+
+/// The register of these statements.
+pub fn statement_bytes(statements: &[Statement]) -> Vec<u8> {
+    let bytes = |one: &Statement| {
+        let numbers = [one.issuer, one.requester, one.permission, one.trust];
+        let days = [one.first_day, one.last_day].map(u16::to_le_bytes);
+        [&numbers, days.as_flattened()].concat()
+    };
+    statements.iter().flat_map(bytes).collect()
+}
+
+/// Statements of a base's users for permission 0, most of them to the requester.
+pub fn random_statements(draws: &mut Draws, base: &Base, requester: u8) -> Vec<Statement> {
+    let last = base.users.len() as u8 - 1;
+    let count = draws.below(6 * base.users.len());
+    let random_statement = |_| {
+        let (first_day, last_day) = random_days(draws);
+        let [issuer, other] = [0, 1].map(|_| draws.byte(0, last));
+        let requester = [requester, requester, requester, other][draws.below(4)];
+        Statement {
+            first_day,
+            last_day,
+            ..statement(issuer, requester, draws.byte(1, 5))
+        }
+    };
+    (0..count).map(random_statement).collect()
+}
 
 pub fn condition(parameter: Parameter, comparison: Comparison, value: u16) -> ContextCondition {
     ContextCondition {

@@ -49,7 +49,7 @@ fn smallest(
 
 /// Whether some group is granted that starts with these entries and goes on
 /// with `more` others, of later users in any roles.
-fn try_groups(question: &Question, group: &mut Vec<u8>, from: u8, more: usize) -> bool {
+pub fn try_groups(question: &Question, group: &mut Vec<u8>, from: u8, more: usize) -> bool {
     if more == 0 {
         return question.grants(group);
     }
@@ -74,53 +74,74 @@ struct Reached {
     last: Option<(Entry, usize)>,
 }
 
-/// A smallest group that is granted, by rising user.
-pub fn smallest_group(question: &Question) -> Option<Vec<Entry>> {
-    let reached = reach(question);
-    let granted =
-        (1..reached.len()).filter(|&place| question.condition_holds(reached[place].attributes));
-    let smallest = granted.min_by_key(|&place| reached[place].attributes.col_num)?;
-    Some(group_at(&reached, smallest))
+/// All attributes that groups of up to six can have, and at place 0 those of
+/// nobody, as users join one by one.
+pub struct Reach<'a> {
+    question: &'a Question<'a>,
+    reached: Vec<Reached>,
+    seen: HashSet<Attributes>,
 }
 
-/// All attributes that groups of up to six can have, and at place 0 those of
-/// nobody. User by user: what is reached by the users before stays reached,
-/// and the user may join each of it in each role that the user may act in.
-fn reach(question: &Question) -> Vec<Reached> {
-    let nobody = Reached {
-        attributes: Attributes::default(),
-        last: None,
-    };
-    let mut seen = HashSet::new();
-    let mut reached = vec![nobody];
-    for user in 0..question.base.users.len() as u8 {
-        let entries: Vec<Entry> = question.entries_of(user).collect();
-        for before in 0..reached.len() {
-            let attributes = reached[before].attributes;
+impl<'a> Reach<'a> {
+    pub fn new(question: &'a Question<'a>) -> Reach<'a> {
+        let nobody = Reached {
+            attributes: Attributes::default(),
+            last: None,
+        };
+        Reach {
+            question,
+            reached: vec![nobody],
+            seen: HashSet::new(),
+        }
+    }
+
+    /// What is reached stays reached, and a user may join each of it from a place
+    /// on, in each of these entries.
+    pub fn join(&mut self, from: usize, entries: &[Entry]) {
+        for before in from..self.reached.len() {
+            let attributes = self.reached[before].attributes;
             if attributes.col_num == MOST_ENTRIES {
                 continue;
             }
-            for &entry in &entries {
-                let attributes = question.joined(attributes, &entry);
-                if seen.insert(attributes) {
+            for &entry in entries {
+                let attributes = self.question.joined(attributes, &entry);
+                if self.seen.insert(attributes) {
                     let last = Some((entry, before));
-                    reached.push(Reached { attributes, last });
+                    self.reached.push(Reached { attributes, last });
                 }
             }
         }
     }
-    reached
+
+    /// A smallest group that is granted, in the order in which its users joined.
+    pub fn smallest_granted(&self) -> Option<Vec<Entry>> {
+        let places = 1..self.reached.len();
+        let attributes = |place: usize| self.reached[place].attributes;
+        let granted = places.filter(|&place| self.question.condition_holds(attributes(place)));
+        let smallest = granted.min_by_key(|&place| attributes(place).col_num)?;
+        Some(self.group_at(smallest))
+    }
+
+    /// The group that first reached the attributes at a place.
+    fn group_at(&self, mut place: usize) -> Vec<Entry> {
+        let mut group = Vec::new();
+        while let Some((entry, before)) = self.reached[place].last {
+            group.push(entry);
+            place = before;
+        }
+        group.reverse();
+        group
+    }
 }
 
-/// The group that first reached the attributes at a place.
-fn group_at(reached: &[Reached], mut place: usize) -> Vec<Entry> {
-    let mut group = Vec::new();
-    while let Some((entry, before)) = reached[place].last {
-        group.push(entry);
-        place = before;
+/// A smallest group that is granted, by rising user.
+pub fn smallest_group(question: &Question) -> Option<Vec<Entry>> {
+    let mut reach = Reach::new(question);
+    for user in 0..question.base.users.len() as u8 {
+        let entries: Vec<Entry> = question.entries_of(user).collect();
+        reach.join(0, &entries);
     }
-    group.reverse();
-    group
+    reach.smallest_granted()
 }
 
 /// What a wrong search finds: for each size only the heaviest users are

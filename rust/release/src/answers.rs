@@ -129,6 +129,73 @@ pub fn report_by(base: &[u8], at: Context, list: &[u8], out: &mut [u8]) -> Answe
     Answer::from_number(library::report_by(base, at, list, out))
 }
 
+/// The decision for a group whose first entry is the requester's, where each other
+/// entry's user has to vouch for the requester by one statement of the register,
+/// of a trust of at least the threshold: 0 if the group is granted the permission,
+/// or the first of refusals 1 to 9, 25, 27, 10 to 15, 24, 26, 16 and 17 that
+/// applies.
+///
+/// ```
+/// use release::example::SMALL_SHOP;
+/// use release::{answers, Context};
+///
+/// let at = Context::new(600, 0, 0, 900);
+/// // User 2 trusts user 0 at 3 for permission 0, from day 0 to day 900.
+/// let register = [2, 0, 0, 3, 0, 0, 0x84, 0x03];
+/// let vouched = |threshold, group: &[u8]| {
+///     answers::decide_vouched(&SMALL_SHOP, 0, at, &register, threshold, group)
+/// };
+/// assert_eq!(vouched(3, &[0, 0, 2, 2]), 0);
+/// assert_eq!(vouched(4, &[0, 0, 2, 2]), 26);
+/// assert_eq!(vouched(3, &[2, 2, 0, 0]), 26);
+/// assert_eq!(vouched(259, &[0, 0, 2, 2]), 27);
+/// ```
+pub fn decide_vouched(
+    base: &[u8],
+    permission: u32,
+    at: Context,
+    register: &[u8],
+    threshold: u32,
+    group: &[u8],
+) -> u32 {
+    library::decide_vouched(base, permission, at, register, threshold, group)
+}
+
+/// Writes 13 bytes for each permission into the buffer's first bytes: the number
+/// of entries of a smallest group that [`decide_vouched`] grants with the requester
+/// first, the group, the others by rising user, and 255 in every byte left. The
+/// answer is 0 and the number of permissions that have a group, or the first of
+/// refusals 1 to 9, 25, 27, 11, 13 and 19 that applies and 0. No refusal writes.
+///
+/// ```
+/// use release::answers::{self, Answer};
+/// use release::example::SMALL_SHOP;
+/// use release::Context;
+///
+/// let at = Context::new(600, 0, 0, 900);
+/// let register = [0, 2, 0, 3, 0, 0, 0x84, 0x03];
+/// let mut out = [7; 14];
+/// let done = Answer { refusal: 0, count: 1 };
+/// let answer = answers::report_vouched(&SMALL_SHOP, at, &register, 3, 2, &mut out);
+/// assert_eq!(answer, done);
+/// assert_eq!(out, [2, 2, 2, 0, 0, 255, 255, 255, 255, 255, 255, 255, 255, 7]);
+///
+/// let refused = Answer { refusal: 13, count: 0 };
+/// let answer = answers::report_vouched(&SMALL_SHOP, at, &register, 3, 258, &mut out);
+/// assert_eq!(answer, refused);
+/// ```
+pub fn report_vouched(
+    base: &[u8],
+    at: Context,
+    register: &[u8],
+    threshold: u32,
+    requester: u32,
+    out: &mut [u8],
+) -> Answer {
+    let number = library::report_vouched(base, at, register, threshold, requester, out);
+    Answer::from_number(number)
+}
+
 /// Writes the list of conflicts, 3 bytes each, into the buffer's first bytes.
 /// The answer is 0 and their number, 18 and the number that would be written,
 /// or the first of refusals 1 to 9 that applies and 0. No refusal writes.

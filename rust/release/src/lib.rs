@@ -13,6 +13,7 @@
 //! | [`decide`], [`decide_bytes`] | may this group release this permission? |
 //! | [`report`], [`report_into`] | which smallest group can release each permission? |
 //! | [`decide_by`], [`decide_by_bytes`], [`report_by`], [`report_by_into`] | the same where a [`Resolution`] says which of several policies counts |
+//! | [`decide_vouched`], [`decide_vouched_bytes`], [`report_vouched`], [`report_vouched_into`] | the same of a requester and those who vouch for the requester by a [`Register`] |
 //! | [`conflicts`], [`conflicts_into`], [`conflict_count`] | which records of the base conflict? |
 //! | [`bound`], [`bound_bytes`] | how far can a policy's new weight shift this group's sum of weights? |
 //! | [`check_parameter`] | is this a user's parameter, and how many codes does the check try? |
@@ -34,8 +35,8 @@
 //! ```
 //!
 //! Nothing is kept between calls, so any number of threads may call at once.
-//! A report, by a list or without, takes about 30,000 bytes of stack, every other
-//! call less than 4,096: a thread with 64 KiB suffices.
+//! A report, of whichever kind, takes about 30,000 bytes of stack, every other call
+//! less than 4,096: a thread with 64 KiB suffices.
 //!
 //! The static library is built by `tools/build` before this crate.
 
@@ -56,6 +57,7 @@ mod refusal;
 mod report;
 mod resolution;
 mod sheet;
+mod vouching;
 
 pub use bound::{bound, bound_bytes};
 pub use conflicts::{conflict_count, conflicts, conflicts_into, Conflict, CONFLICT_BYTES};
@@ -69,6 +71,10 @@ pub use report::{
 };
 pub use resolution::{Resolution, Rule, LONGEST_RESOLUTION};
 pub use sheet::{Sheet, SHEET_BYTES};
+pub use vouching::{
+    decide_vouched, decide_vouched_bytes, report_vouched, report_vouched_into, Register, Statement,
+    LONGEST_REGISTER, STATEMENT_BYTES,
+};
 
 /// The most bytes that a base can have.
 pub const LONGEST_BASE: usize = 2_460;

@@ -58,6 +58,36 @@ mod foreign {
             out_len: usize,
         ) -> u64;
 
+        pub fn release_vouch_decide(
+            base: *const u8,
+            base_len: usize,
+            permission: u32,
+            minute: u32,
+            day: u32,
+            zone: u32,
+            date: u32,
+            register: *const u8,
+            register_len: usize,
+            threshold: u32,
+            group: *const u8,
+            group_len: usize,
+        ) -> u32;
+
+        pub fn release_vouch_report(
+            base: *const u8,
+            base_len: usize,
+            minute: u32,
+            day: u32,
+            zone: u32,
+            date: u32,
+            register: *const u8,
+            register_len: usize,
+            threshold: u32,
+            requester: u32,
+            out: *mut u8,
+            out_len: usize,
+        ) -> u64;
+
         pub fn release_conflicts(
             base: *const u8,
             base_len: usize,
@@ -183,6 +213,64 @@ pub fn report_by(base: &[u8], at: Context, list: &[u8], out: &mut [u8]) -> u64 {
             at.date,
             list.as_ptr(),
             list.len(),
+            out.as_mut_ptr(),
+            out.len(),
+        )
+    }
+}
+
+pub fn decide_vouched(
+    base: &[u8],
+    permission: u32,
+    at: Context,
+    register: &[u8],
+    threshold: u32,
+    group: &[u8],
+) -> u32 {
+    // SAFETY: the pointers and lengths are those of three slices, which the
+    // library only reads, and only during the call.
+    unsafe {
+        foreign::release_vouch_decide(
+            base.as_ptr(),
+            base.len(),
+            permission,
+            at.minute,
+            at.day,
+            at.zone,
+            at.date,
+            register.as_ptr(),
+            register.len(),
+            threshold,
+            group.as_ptr(),
+            group.len(),
+        )
+    }
+}
+
+/// The answer as refusal + 256 * count.
+pub fn report_vouched(
+    base: &[u8],
+    at: Context,
+    register: &[u8],
+    threshold: u32,
+    requester: u32,
+    out: &mut [u8],
+) -> u64 {
+    // SAFETY: the pointers and lengths are those of three slices, of which the
+    // third overlaps neither other one. The library only reads the first two and
+    // writes the third within its length, and only during the call.
+    unsafe {
+        foreign::release_vouch_report(
+            base.as_ptr(),
+            base.len(),
+            at.minute,
+            at.day,
+            at.zone,
+            at.date,
+            register.as_ptr(),
+            register.len(),
+            threshold,
+            requester,
             out.as_mut_ptr(),
             out.len(),
         )

@@ -4,10 +4,11 @@ use std::error::Error;
 use std::fmt;
 
 /// Why a call is refused, by number. Each call's documentation says which it can
-/// give; they are checked in rising order, but for 22, which comes after 9, and
-/// 24, which comes after 15. The tables of a base are H (hierarchy), U (users), P
-/// (permissions), K (group clauses), C (context clauses), A (policies) and X
-/// (exclusions); R is the number of roles.
+/// give; they are checked in rising order, but for 22 and 25, which come after 9,
+/// 27, which comes after 25, and 24, which comes after 15, with 26 behind it. The
+/// tables of a base are H (hierarchy), U (users), P (permissions), K (group
+/// clauses), C (context clauses), A (policies) and X (exclusions); R is the number
+/// of roles.
 #[derive(Clone, Copy, Debug, PartialEq, Eq, Hash)]
 #[non_exhaustive]
 pub enum Refusal {
@@ -39,7 +40,8 @@ pub enum Refusal {
     Context = 11,
     /// 12: the group's length is 0, odd or above 12.
     GroupLength = 12,
-    /// 13: an entry's user isn't in U, or its role isn't below R.
+    /// 13: an entry's user isn't in U, or its role isn't below R; of a report for a
+    /// requester, the requester isn't in U.
     NoUserOrRole = 13,
     /// 14: a user stands in two entries; of a signing, its user is on the
     /// sheet.
@@ -67,11 +69,20 @@ pub enum Refusal {
     /// 24: the date is before the first or after the last day of an entry's
     /// user. It comes after 15 and before 16.
     OutOfDate = 24,
+    /// 25: the register's length isn't a multiple of 8 or exceeds 2,048, or a
+    /// statement names a user or permission that isn't there, has a trust that
+    /// isn't 1 to 5 or a first day above the last. It comes after 9 and before 27.
+    Register = 25,
+    /// 26: the user of an entry but the first doesn't vouch for the requester. It
+    /// comes after 24 and before 16.
+    NotVouched = 26,
+    /// 27: the threshold isn't 1 to 5. It comes after 25 and before 10.
+    Threshold = 27,
 }
 
 impl Refusal {
     /// Every refusal, by number.
-    pub const ALL: [Refusal; 24] = [
+    pub const ALL: [Refusal; 27] = [
         Refusal::Length,
         Refusal::Letters,
         Refusal::Trailer,
@@ -96,9 +107,12 @@ impl Refusal {
         Refusal::Resolution,
         Refusal::NoSignature,
         Refusal::OutOfDate,
+        Refusal::Register,
+        Refusal::NotVouched,
+        Refusal::Threshold,
     ];
 
-    /// The refusal's number, 1 to 24.
+    /// The refusal's number, 1 to 27.
     ///
     /// ```
     /// assert_eq!(release::Refusal::UserTwice.number(), 14);
@@ -154,7 +168,10 @@ impl Refusal {
             Refusal::NoPermission => "the base has no permission of that number",
             Refusal::Context => "minute, day, zone or date is out of range",
             Refusal::GroupLength => "the group's length is 0, odd or above 12",
-            Refusal::NoUserOrRole => "the base has no user or no role of an entry's number",
+            Refusal::NoUserOrRole => {
+                "the base has no user or no role of an entry's number, or no user of the \
+                 requester's"
+            }
             Refusal::UserTwice => {
                 "a user stands in two entries, or a new entry's user is on the sheet"
             }
@@ -180,6 +197,14 @@ impl Refusal {
             Refusal::OutOfDate => {
                 "the date is before the first or after the last day of an entry's user"
             }
+            Refusal::Register => {
+                "the register's length isn't a multiple of 8 or exceeds 2,048, or a \
+                 statement breaks its rules or names a user or permission that isn't there"
+            }
+            Refusal::NotVouched => {
+                "the user of an entry but the first has no statement that vouches for the requester"
+            }
+            Refusal::Threshold => "the threshold isn't 1 to 5",
         }
     }
 }
@@ -202,7 +227,7 @@ impl Error for Refusal {}
 pub(crate) fn result_of(answer: u32) -> Result<(), Refusal> {
     match answer {
         0 => Ok(()),
-        _ => Err(Refusal::from_number(answer).expect("the library answers 0 to 24")),
+        _ => Err(Refusal::from_number(answer).expect("the library answers 0 to 27")),
     }
 }
 
@@ -218,7 +243,7 @@ mod tests {
             assert_eq!(result_of(number), Err(refusal));
         }
         assert_eq!(result_of(0), Ok(()));
-        assert_eq!(Refusal::from_number(25), None);
+        assert_eq!(Refusal::from_number(28), None);
     }
 
     #[test]

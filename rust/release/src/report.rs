@@ -17,14 +17,14 @@ const MOST_APPROVERS: u8 = 6;
 
 /// In bytes that no report has written. A permission's first byte is never
 /// this.
-const UNWRITTEN: u8 = 255;
+pub(crate) const UNWRITTEN: u8 = 255;
 
 /// A release report: for each permission a smallest group that can release it
 /// in the context.
 #[derive(Clone, Debug, PartialEq, Eq)]
 pub struct Report {
-    count: usize,
-    bytes: [u8; LONGEST_REPORT],
+    pub(crate) count: usize,
+    pub(crate) bytes: [u8; LONGEST_REPORT],
 }
 
 impl Report {
@@ -109,7 +109,9 @@ impl Permission {
         self.bytes[0].into()
     }
 
-    /// The group shown, by rising user; none if no group can release it.
+    /// The group shown, by rising user; none if no group can release it. In a
+    /// report for a requester the requester's entry stands first, and the others
+    /// rise.
     ///
     /// ```
     /// # use release::{decide, example::SMALL_SHOP, report, Context, Entry};

@@ -108,6 +108,21 @@ fn the_example_prints_who_can_release_by_lists() {
 }
 
 #[test]
+fn the_example_prints_who_vouches() {
+    let example = C.compile("examples/vouching.c", "vouching");
+    let expected = "\
+        manager with a clerk: granted\n\
+        clerk with the manager: refused 26\n\
+        manager with the buyer: refused 26\n\
+        requester 0: 0/0 2/2\n\
+        requester 1: no group\n\
+        requester 2: no group\n\
+        requester 3: 3/2 0/0\n\
+        requester 4: refused 13\n";
+    assert_eq!(printed(&example, &[]), expected);
+}
+
+#[test]
 fn every_call_from_c() {
     let calls = C.compile("rust/release/tests/calls.c", "calls_c");
     assert_eq!(printed(&calls, &SMALL_SHOP), "ok\n");

@@ -1,7 +1,7 @@
 /*
  * Calls each function through the header, in C and in C++: every refusal and
- * every rule by its name, dates, NULL with length 0, the buffers, the sheets and
- * the two parts of an answer. The small shop comes in on standard input. Prints
+ * every rule by its name, dates, registers, NULL with length 0, the buffers, the
+ * sheets and the two parts of an answer. The small shop comes in on standard input. Prints
  * what differs, or `ok`.
  */
 #include <stdio.h>
@@ -229,6 +229,130 @@ static void reports_by(void) {
            release_report_by(base, SHOP, 600, 0, 0, DATE, rank, 2, out, sizeof out));
     expect("approvers", 2, out[0]);
     expect("the byte behind", 7, out[RELEASE_PERMISSION_BYTES]);
+}
+
+/* A clerk, user 2, trusts the manager at 3 on days 899 to 901, and the manager the
+   other clerk at 5 on all days. */
+static const uint8_t trusted[] = {2, 0, 0, 3, 0x83, 3, 0x85, 3, 0, 3, 0, 5, 0, 0, 255, 255};
+
+static uint32_t vouch(uint32_t date, uint32_t threshold, const uint8_t *group, size_t length) {
+    return release_vouch_decide(shop, SHOP, 0, 600, 0, 0, date, trusted, sizeof trusted,
+                                threshold, group, length);
+}
+
+static void vouched_decisions(void) {
+    const uint8_t two[] = {0, 0, 2, 2};
+    const uint8_t turned[] = {2, 2, 0, 0};
+    const uint8_t other[] = {3, 2, 0, 0};
+    const uint8_t three[] = {0, 0, 2, 2, 3, 2};
+    uint32_t date;
+    uint32_t threshold;
+    for (date = 897; date <= 903; date++) {
+        uint32_t answer = date < 899 || 901 < date ? RELEASE_REFUSAL_NOT_VOUCHED : RELEASE_DONE;
+        expect("vouched on a date", answer, vouch(date, 3, two, 4));
+        expect("vouched on all days", RELEASE_DONE, vouch(date, 5, other, 4));
+    }
+    for (threshold = 1; threshold <= 5; threshold++) {
+        uint32_t answer = threshold > 3 ? RELEASE_REFUSAL_NOT_VOUCHED : RELEASE_DONE;
+        expect("vouched at a threshold", answer, vouch(DATE, threshold, two, 4));
+    }
+    expect("26", RELEASE_REFUSAL_NOT_VOUCHED, vouch(DATE, 1, turned, 4));
+    expect("26", RELEASE_REFUSAL_NOT_VOUCHED, vouch(DATE, 1, three, 6));
+    expect("the requester alone", RELEASE_REFUSAL_CONDITION, vouch(DATE, 1, two, 2));
+    expect("27", RELEASE_REFUSAL_THRESHOLD, vouch(DATE, 0, two, 4));
+    expect("27", RELEASE_REFUSAL_THRESHOLD, vouch(DATE, 6, two, 4));
+    expect("27", RELEASE_REFUSAL_THRESHOLD, vouch(DATE, 257, two, 4));
+    expect("27", RELEASE_REFUSAL_THRESHOLD, vouch(DATE, UINT32_MAX, two, 4));
+}
+
+/* With every later fault too. */
+static void vouched_refusals(void) {
+    const uint8_t odd[] = {2, 2, 0};
+    expect("2", RELEASE_REFUSAL_LETTERS,
+           release_vouch_decide(shop, SHOP - 1, 1, 1440, 0, 0, DATE, trusted, 7, 0, odd, 3));
+    expect("25", RELEASE_REFUSAL_REGISTER,
+           release_vouch_decide(shop, SHOP, 1, 1440, 0, 0, DATE, trusted, 7, 0, odd, 3));
+    expect("27", RELEASE_REFUSAL_THRESHOLD,
+           release_vouch_decide(shop, SHOP, 1, 1440, 0, 0, DATE, trusted, 8, 0, odd, 3));
+    expect("10", RELEASE_REFUSAL_NO_PERMISSION,
+           release_vouch_decide(shop, SHOP, 1, 1440, 0, 0, DATE, trusted, 8, 1, odd, 3));
+    expect("11", RELEASE_REFUSAL_CONTEXT,
+           release_vouch_decide(shop, SHOP, 0, 1440, 0, 0, DATE, trusted, 8, 1, odd, 3));
+    expect("12", RELEASE_REFUSAL_GROUP_LENGTH,
+           release_vouch_decide(shop, SHOP, 0, 600, 0, 0, DATE, trusted, 8, 1, odd, 3));
+    expect("the base's bytes as register and group", RELEASE_REFUSAL_REGISTER,
+           release_vouch_decide(shop, SHOP, 0, 600, 0, 0, DATE, shop, 8, 1, shop + 2, 2));
+    expect("no statement", RELEASE_REFUSAL_CONDITION,
+           release_vouch_decide(shop, SHOP, 0, 600, 0, 0, DATE, shop, 0, 1, shop + 2, 2));
+}
+
+/* The shop's answer to one statement with a byte changed. */
+static uint32_t register_with(size_t place, uint8_t value) {
+    const uint8_t two[] = {0, 0, 2, 2};
+    uint8_t statement[RELEASE_STATEMENT_BYTES];
+    memcpy(statement, trusted, sizeof statement);
+    statement[place] = value;
+    return release_vouch_decide(shop, SHOP, 0, 600, 0, 0, DATE, statement, sizeof statement, 1,
+                                two, 4);
+}
+
+static void registers(void) {
+    const uint8_t two[] = {0, 0, 2, 2};
+    uint8_t longest[RELEASE_LONGEST_REGISTER + RELEASE_STATEMENT_BYTES];
+    size_t at;
+    expect("as it is", RELEASE_DONE, register_with(0, 2));
+    expect("an issuer who isn't there", RELEASE_REFUSAL_REGISTER, register_with(0, 4));
+    expect("a requester who isn't there", RELEASE_REFUSAL_REGISTER, register_with(1, 4));
+    expect("a permission that isn't there", RELEASE_REFUSAL_REGISTER, register_with(2, 1));
+    expect("trust 0", RELEASE_REFUSAL_REGISTER, register_with(3, 0));
+    expect("trust 1", RELEASE_DONE, register_with(3, 1));
+    expect("trust 6", RELEASE_REFUSAL_REGISTER, register_with(3, 6));
+    expect("the first day above the last", RELEASE_REFUSAL_REGISTER, register_with(5, 4));
+    for (at = 0; at < sizeof longest; at += RELEASE_STATEMENT_BYTES) {
+        memcpy(longest + at, trusted, RELEASE_STATEMENT_BYTES);
+    }
+    expect("the longest", RELEASE_DONE,
+           release_vouch_decide(shop, SHOP, 0, 600, 0, 0, DATE, longest,
+                                RELEASE_LONGEST_REGISTER, 3, two, 4));
+    expect("a longer one", RELEASE_REFUSAL_REGISTER,
+           release_vouch_decide(shop, SHOP, 0, 600, 0, 0, DATE, longest, sizeof longest, 3,
+                                two, 4));
+    longest[RELEASE_LONGEST_REGISTER - RELEASE_STATEMENT_BYTES + 3] = 6;
+    expect("a bad last statement", RELEASE_REFUSAL_REGISTER,
+           release_vouch_decide(shop, SHOP, 0, 600, 0, 0, DATE, longest,
+                                RELEASE_LONGEST_REGISTER, 3, two, 4));
+}
+
+static uint64_t vouch_report(uint32_t requester, uint8_t *out, size_t length) {
+    return release_vouch_report(shop, SHOP, 600, 0, 0, DATE, trusted, sizeof trusted, 3,
+                                requester, out, length);
+}
+
+static void vouched_reports(void) {
+    const uint8_t record[] = {2, 3, 2, 0, 0, 255, 255, 255, 255, 255, 255, 255, 255, 7};
+    uint8_t out[RELEASE_PERMISSION_BYTES + 1];
+    uint64_t answer;
+    memset(out, 7, sizeof out);
+    expect("2", RELEASE_REFUSAL_LETTERS,
+           release_vouch_report(shop, SHOP - 1, 1440, 0, 0, DATE, trusted, 7, 0, 4, out, 0));
+    expect("25", RELEASE_REFUSAL_REGISTER,
+           release_vouch_report(shop, SHOP, 1440, 0, 0, DATE, trusted, 7, 0, 4, out, 0));
+    expect("27", RELEASE_REFUSAL_THRESHOLD,
+           release_vouch_report(shop, SHOP, 1440, 0, 0, DATE, trusted, 8, 0, 4, out, 0));
+    expect("11", RELEASE_REFUSAL_CONTEXT,
+           release_vouch_report(shop, SHOP, 1440, 0, 0, DATE, trusted, 8, 1, 4, out, 0));
+    expect("13", RELEASE_REFUSAL_NO_USER_OR_ROLE, vouch_report(4, out, 0));
+    expect("13", RELEASE_REFUSAL_NO_USER_OR_ROLE, vouch_report(259, out, sizeof out));
+    expect("19", RELEASE_REFUSAL_REPORT_BUFFER,
+           vouch_report(3, out, RELEASE_PERMISSION_BYTES - 1));
+    expect("a refused report writes nothing", 7, out[0]);
+    answer = vouch_report(3, out, sizeof out);
+    expect("report for a requester", RELEASE_DONE, release_answer_refusal(answer));
+    expect("releasable", 1, release_answer_count(answer));
+    expect("the requester first", 0, memcmp(out, record, sizeof record) != 0);
+    expect("nobody vouches", 0, vouch_report(1, out, sizeof out));
+    expect("no approvers", 0, out[0]);
+    expect("no entry", 255, out[1]);
 }
 
 /* The shop with its three policies made the buyer's, of weights 1, 2 and 3. */
@@ -558,6 +682,9 @@ static void nulls(void) {
     expect("no base", 1, release_report(NULL, 0, 480, 0, 0, DATE, out, sizeof out));
     expect("no base", 1, release_report(NULL, 0, 480, 0, 0, DATE, NULL, 0));
     expect("no base", 1, release_report_by(NULL, 0, 480, 0, 0, DATE, NULL, 0, NULL, 0));
+    expect("no base", 1,
+           release_vouch_decide(NULL, 0, 0, 480, 0, 0, DATE, NULL, 0, 1, NULL, 0));
+    expect("no base", 1, release_vouch_report(NULL, 0, 480, 0, 0, DATE, NULL, 0, 1, 0, NULL, 0));
     expect("no base", 1, release_conflicts(NULL, 0, out, sizeof out));
     expect("no base", 1, release_conflicts(NULL, 0, NULL, 0));
     expect("no base", 1, release_bound(NULL, 0, 0, 5, NULL, 0));
@@ -570,11 +697,38 @@ static void nulls(void) {
     expect("no group", 12, release_decide(shop, SHOP, 0, 480, 0, 0, DATE, NULL, 0));
     expect("no group", 12, release_decide_by(shop, SHOP, 0, 480, 0, 0, DATE, shop, 1, NULL, 0));
     expect("no group", 12, release_bound(shop, SHOP, 0, 5, NULL, 0));
+    expect("no statements, no group", 12,
+           release_vouch_decide(shop, SHOP, 0, 480, 0, 0, DATE, NULL, 0, 1, NULL, 0));
+    expect("no statements, no buffer", 19,
+           release_vouch_report(shop, SHOP, 480, 0, 0, DATE, NULL, 0, 1, 0, NULL, 0));
     expect("no buffer", 19, release_report(shop, SHOP, 480, 0, 0, DATE, NULL, 0));
     expect("no buffer", 19, release_report_by(shop, SHOP, 480, 0, 0, DATE, shop, 1, NULL, 0));
     expect("no permission, no buffer", 0,
            release_report(least, sizeof least, 480, 0, 0, DATE, NULL, 0));
     expect("no conflict, no buffer", 0, release_conflicts(shop, SHOP, NULL, 0));
+}
+
+/* Registers, groups and buffers that start anywhere, and bases too. */
+static void unaligned_registers(void) {
+    const uint8_t two[] = {0, 0, 2, 2};
+    uint8_t base[SHOP + 8];
+    uint8_t statements[sizeof trusted + 8];
+    uint8_t group[4 + 8];
+    uint8_t out[RELEASE_PERMISSION_BYTES + 8];
+    size_t at;
+    for (at = 0; at < 8; at++) {
+        memcpy(base + at, shop, SHOP);
+        memset(statements, 255, sizeof statements);
+        memcpy(statements + at, trusted, sizeof trusted);
+        memcpy(group + at, two, 4);
+        expect("vouch", 0,
+               release_vouch_decide(base + at, SHOP, 0, 600, 0, 0, DATE, statements + at,
+                                    sizeof trusted, 3, group + at, 4));
+        expect("report for a requester", 256,
+               release_vouch_report(base + at, SHOP, 600, 0, 0, DATE, statements + at,
+                                    sizeof trusted, 3, 3, out + at, RELEASE_PERMISSION_BYTES));
+        expect("approvers", 2, out[at]);
+    }
 }
 
 /* Bases, lists, groups, buffers and sheets that start anywhere. */
@@ -627,6 +781,10 @@ int main(void) {
     decisions_by();
     reports();
     reports_by();
+    vouched_decisions();
+    vouched_refusals();
+    registers();
+    vouched_reports();
     conflicts();
     acting_conflicts();
     bounds();
@@ -641,6 +799,7 @@ int main(void) {
     reports_on_dates();
     nulls();
     unaligned();
+    unaligned_registers();
     if (differences == 0) {
         printf("ok\n");
     }

@@ -4,8 +4,9 @@ use std::thread::{self, Builder};
 
 use release::example::SMALL_SHOP;
 use release::{
-    bound_bytes, check, check_parameter, conflicts_into, decide_by_bytes, decide_bytes, report,
-    report_by, Context, Entry, Refusal, Resolution, Rule, Sheet, Tried,
+    bound_bytes, check, check_parameter, conflicts_into, decide_by_bytes, decide_bytes,
+    decide_vouched_bytes, report, report_by, report_vouched, Context, Entry, Refusal, Register,
+    Resolution, Rule, Sheet, Statement, Tried,
 };
 
 const EARLY: Context = Context {
@@ -48,6 +49,20 @@ fn releasable_by(base: &[u8]) -> Result<usize, Refusal> {
     report_by(base, EARLY, list).map(|report| report.count())
 }
 
+/// The same for user 0 as requester, whom the first 16 users trust for each
+/// permission, in a register of 256 statements.
+fn releasable_vouched(base: &[u8]) -> Result<usize, Refusal> {
+    let count = |place| base[base.len() - 36 + place];
+    let (users, permissions) = (count(6).min(16), count(10));
+    let of_permission = |permission| {
+        let issuers = 0..users;
+        issuers.map(move |issuer| Statement::new(issuer, 0, permission, 3))
+    };
+    let statements = (0..permissions).flat_map(of_permission).cycle();
+    let register: Register = statements.take(256).collect();
+    report_vouched(base, EARLY, &register, 3, 0).map(|report| report.count())
+}
+
 #[test]
 fn a_report_in_64_kib() {
     const LITTLE: usize = 1 << 16;
@@ -63,6 +78,20 @@ fn a_report_in_64_kib() {
 }
 
 #[test]
+fn a_report_for_a_requester_in_64_kib() {
+    const LITTLE: usize = 1 << 16;
+    for (base, count) in [(SMALL_SHOP, 1), (out_of_reach(), 0)] {
+        let reported = within(LITTLE, move || releasable_vouched(&base));
+        assert_eq!(reported, Ok(count));
+    }
+    for (name, plan) in twin::worst::all() {
+        let base = plan.bytes();
+        let reported = within(LITTLE, move || releasable_vouched(&base));
+        assert!(reported.is_ok(), "{name}: {reported:?}");
+    }
+}
+
+#[test]
 fn every_other_call_in_32_kib() {
     const LITTLE: usize = 1 << 15;
     assert_eq!(within(LITTLE, || check(&SMALL_SHOP)), Ok(()));
@@ -72,6 +101,11 @@ fn every_other_call_in_32_kib() {
     assert_eq!(decided, Err(Refusal::Condition));
     let decided = within(LITTLE, || {
         decide_by_bytes(&out_of_reach(), 0, EARLY, &[0, 1, 2], &[0, 0, 1, 1])
+    });
+    assert_eq!(decided, Err(Refusal::Condition));
+    let decided = within(LITTLE, || {
+        let register = [1, 0, 0, 3, 0, 0, 255, 255].repeat(256);
+        decide_vouched_bytes(&out_of_reach(), 0, EARLY, &register, 3, &[0, 0, 1, 1])
     });
     assert_eq!(decided, Err(Refusal::Condition));
     let listed = within(LITTLE, || conflicts_into(&SMALL_SHOP, &mut [0; 9]));
@@ -102,6 +136,7 @@ fn many_at_once() {
                 for _ in 0..200 {
                     assert_eq!(releasable(&base), Ok(count));
                     assert_eq!(releasable_by(&base), Ok(count));
+                    assert_eq!(releasable_vouched(&base), Ok(count));
                 }
             });
         }

@@ -15,9 +15,10 @@ use compare::random::Random;
 use compare::rivals::rival_base;
 use compare::sheets::{agreed_call, SheetCall};
 use compare::sparse::sparse_base;
+use compare::vouchers::{trust_for, trust_in};
 use compare::{
-    agreed_check, agreed_conflicts, agreed_decision, agreed_decision_by, agreed_report,
-    agreed_report_by,
+    agreed_check, agreed_conflicts, agreed_decision, agreed_decision_by, agreed_decision_vouched,
+    agreed_report, agreed_report_by, agreed_report_vouched,
 };
 use model::Base;
 
@@ -97,6 +98,8 @@ fn answers(random: &mut Random, misshapen: &Misshapen) -> Vec<(Call, u8)> {
     let at = any_context(random, records);
     let changed = random_change(random, base);
     let mut lent = Lent::noisy(random, 16 * 13);
+    let trust = trust_for(random, base, &asked);
+    let trust_in_0 = trust_in(random, base, at.date, 0);
     let mut answers = vec![
         (Call::Check, agreed_check(bytes)),
         (Call::Decide, agreed_decision(bytes, &asked)),
@@ -108,6 +111,14 @@ fn answers(random: &mut Random, misshapen: &Misshapen) -> Vec<(Call, u8)> {
         ),
         (Call::Conflicts, agreed_conflicts(bytes, &mut lent).refusal),
         (Call::Bound, agreed_bound(bytes, &changed).0),
+        (
+            Call::DecideVouched,
+            agreed_decision_vouched(bytes, &trust, &asked),
+        ),
+        (
+            Call::ReportVouched,
+            agreed_report_vouched(bytes, at, &trust_in_0, 0, &mut lent).refusal,
+        ),
     ];
     let kinds = [Call::Open, Call::Sign, Call::Ask];
     let calls = sheet_calls(random, misshapen);

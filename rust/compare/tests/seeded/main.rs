@@ -1,6 +1,6 @@
 //! Compares the calls on many random bases, sound, damaged and of the form before
 //! users had days, shows that each wrong reading of the rules would be noticed,
-//! and tries what is said of a changed weight.
+//! and tries what is said of a changed weight, of trust and of a threshold.
 
 mod bounds;
 mod checks;
@@ -18,6 +18,9 @@ mod sheets;
 mod shifts;
 mod shifts_by_lists;
 mod tried;
+mod trust_laws;
+mod trusted;
+mod vouched;
 mod withdrawn;
 
 use std::time::{Duration, Instant};
@@ -40,6 +43,7 @@ fn seeded_comparison() {
     lists::compare(&mut seen);
     parameters::compare(&mut seen);
     forms::compare(&mut seen);
+    vouched::compare(&mut seen);
     let taken = start.elapsed();
     seen.print(taken);
     seen.expect_all();

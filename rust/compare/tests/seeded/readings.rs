@@ -2,18 +2,19 @@
 //! show each of them, in every call whose answer it can change.
 
 use compare::bounds::Changed;
+use compare::calls::{Decision, Report};
 use compare::changes::random_change;
 use compare::lent::Lent;
-use compare::lists::{illegal_list, List, LEGAL};
+use compare::lists::{illegal_list, LEGAL};
 use compare::questions::{context_in_range, random_question, Asked};
 use compare::random::Random;
 use compare::sheets::SheetCall;
 use compare::shown::{numbers, RECORD};
-use compare::{library_decision, library_report};
+use compare::vouchers::{any_requester, trust_for, trust_in};
 use model::{Context, Reading, Sheet};
 
 use crate::forms::{self, Misshapen};
-use crate::{bounds, conflicts, decisions, lists, parameters, reports, sheets};
+use crate::{bounds, conflicts, decisions, lists, parameters, reports, sheets, vouched};
 
 /// How many of the misshapen bases each call is tried on, four ways each.
 const MISSHAPEN: usize = 20;
@@ -31,14 +32,9 @@ fn checks_that_differ(reading: Reading) -> usize {
 }
 
 /// Whether the library's decision isn't the model's by a reading.
-fn decision_differs(reading: Reading, base: &[u8], list: List, asked: &Asked) -> bool {
-    let Asked {
-        permission,
-        at,
-        group,
-    } = asked;
-    let by_model = model::decide_as(reading, base, *permission, *at, list, group);
-    library_decision(base, list, asked) != u32::from(by_model)
+fn decision_differs(reading: Reading, base: &[u8], decision: Decision, asked: &Asked) -> bool {
+    let by_model = decision.by_model(reading, base, asked);
+    decision.by_library(base, asked) != u32::from(by_model)
 }
 
 /// Whether the library's answer or numbers of approvers aren't the model's by a
@@ -47,13 +43,13 @@ fn report_differs(
     reading: Reading,
     base: &[u8],
     at: Context,
-    list: List,
+    report: Report,
     permissions: usize,
 ) -> bool {
     let mut by_library = vec![0; RECORD * permissions];
     let mut by_model = by_library.clone();
-    let library = library_report(base, at, list, &mut by_library);
-    let model = model::report_as(reading, base, at, list, &mut by_model);
+    let library = report.by_library(base, at, &mut by_library);
+    let model = report.by_model(reading, base, at, &mut by_model);
     library.refusal != u32::from(model.refusal) || numbers(&by_library) != numbers(&by_model)
 }
 
@@ -61,7 +57,7 @@ fn report_differs(
 fn decisions_that_differ(reading: Reading) -> usize {
     let mut found = 0;
     let mut compare = |base: &[u8], asked: &Asked| {
-        found += usize::from(decision_differs(reading, base, None, asked));
+        found += usize::from(decision_differs(reading, base, Decision::By(None), asked));
     };
     decisions::sound_bases(500, &mut compare);
     forms::bases(MISSHAPEN, |random, misshapen| {
@@ -81,18 +77,14 @@ fn decisions_by_that_differ(reading: Reading) -> usize {
         let others = [illegal_list(random), illegal_list(random)];
         let others = others.iter().map(Vec::as_slice);
         for list in LEGAL.into_iter().chain(others) {
-            found += usize::from(decision_differs(reading, base, Some(list), asked));
+            let by = Decision::By(Some(list));
+            found += usize::from(decision_differs(reading, base, by, asked));
         }
     });
     forms::bases(MISSHAPEN, |random, misshapen| {
         let asked = question(random, &misshapen);
-        let list = random.pick(&LEGAL);
-        found += usize::from(decision_differs(
-            reading,
-            misshapen.bytes,
-            Some(list),
-            &asked,
-        ));
+        let by = Decision::By(Some(random.pick(&LEGAL)));
+        found += usize::from(decision_differs(reading, misshapen.bytes, by, &asked));
     });
     found
 }
@@ -104,10 +96,12 @@ fn reports_that_differ(reading: Reading) -> usize {
     reports::sound_bases(600, |random, records| {
         let at = context_in_range(random, records);
         let (base, permissions) = (records.bytes(), records.permissions.len());
-        found += usize::from(report_differs(reading, &base, at, None, permissions));
+        let by = Report::By(None);
+        found += usize::from(report_differs(reading, &base, at, by, permissions));
     });
     forms::bases(MISSHAPEN, |random, misshapen| {
-        found += usize::from(misshapen_report_differs(reading, random, None, &misshapen));
+        let by = Report::By(None);
+        found += usize::from(misshapen_report_differs(reading, random, by, &misshapen));
     });
     found
 }
@@ -115,12 +109,12 @@ fn reports_that_differ(reading: Reading) -> usize {
 fn misshapen_report_differs(
     reading: Reading,
     random: &mut Random,
-    list: List,
+    report: Report,
     misshapen: &Misshapen,
 ) -> bool {
     let at = context_in_range(random, misshapen.records);
     let permissions = misshapen.records.permissions.len();
-    report_differs(reading, misshapen.bytes, at, list, permissions)
+    report_differs(reading, misshapen.bytes, at, report, permissions)
 }
 
 /// The same by lists: all legal ones, and two others.
@@ -132,13 +126,49 @@ fn reports_by_that_differ(reading: Reading) -> usize {
         let others = [illegal_list(random), illegal_list(random)];
         let others = others.iter().map(Vec::as_slice);
         for list in LEGAL.into_iter().chain(others) {
-            let differs = report_differs(reading, &base, at, Some(list), permissions);
-            found += usize::from(differs);
+            let by = Report::By(Some(list));
+            found += usize::from(report_differs(reading, &base, at, by, permissions));
         }
     });
     forms::bases(MISSHAPEN, |random, misshapen| {
-        let list = Some(random.pick(&LEGAL));
-        found += usize::from(misshapen_report_differs(reading, random, list, &misshapen));
+        let by = Report::By(Some(random.pick(&LEGAL)));
+        found += usize::from(misshapen_report_differs(reading, random, by, &misshapen));
+    });
+    found
+}
+
+/// In how many cases the library's decision for a requester isn't the model's by a
+/// reading.
+fn decisions_vouched_that_differ(reading: Reading) -> usize {
+    let mut found = 0;
+    vouched::questions(500, |base, trust, asked| {
+        let vouched = Decision::Vouched(trust);
+        found += usize::from(decision_differs(reading, base, vouched, asked));
+    });
+    forms::bases(MISSHAPEN, |random, misshapen| {
+        let asked = question(random, &misshapen);
+        let trust = trust_for(random, misshapen.base, &asked);
+        let vouched = Decision::Vouched(&trust);
+        found += usize::from(decision_differs(reading, misshapen.bytes, vouched, &asked));
+    });
+    found
+}
+
+/// The same of reports for a requester.
+fn reports_vouched_that_differ(reading: Reading) -> usize {
+    let mut found = 0;
+    vouched::any_reports(1_200, |base, at, trust, requester| {
+        let report = Report::For { requester, trust };
+        let permissions = compare::permission_count(base);
+        found += usize::from(report_differs(reading, base, at, report, permissions));
+    });
+    forms::bases(MISSHAPEN, |random, misshapen| {
+        let requester = any_requester(random, misshapen.base);
+        let trust = &trust_in(random, misshapen.base, 300, requester);
+        let report = Report::For { requester, trust };
+        found += usize::from(misshapen_report_differs(
+            reading, random, report, &misshapen,
+        ));
     });
     found
 }
@@ -215,13 +245,15 @@ fn parameters_that_differ(reading: Reading) -> usize {
     found
 }
 
-/// Those of the decision, whose answers a report and an asking go by.
+/// Those of the decision, whose answers reports and an asking go by.
 const OF_DECISIONS: &[&str] = &[
     "decisions",
     "reports",
     "askings",
     "decisions by lists",
     "reports by lists",
+    "decisions vouched",
+    "reports vouched",
 ];
 
 /// Those and the conflict list.
@@ -232,6 +264,8 @@ const OF_CONTEXTS: &[&str] = &[
     "askings",
     "decisions by lists",
     "reports by lists",
+    "decisions vouched",
+    "reports vouched",
 ];
 
 /// Those that look at who may act.
@@ -244,6 +278,8 @@ const OF_ACTING: &[&str] = &[
     "bounds",
     "decisions by lists",
     "reports by lists",
+    "decisions vouched",
+    "reports vouched",
 ];
 
 /// Those that check a base.
@@ -258,6 +294,8 @@ const OF_BASES: &[&str] = &[
     "bounds",
     "decisions by lists",
     "reports by lists",
+    "decisions vouched",
+    "reports vouched",
 ];
 
 /// The calls in which a reading shows.
@@ -271,12 +309,21 @@ fn shows(reading: Reading) -> &'static [&'static str] {
         Reading::HeldAlone | Reading::DirectJuniors | Reading::SeniorsToo => OF_ACTING,
         Reading::ListAfterPermission => &["decisions by lists"],
         Reading::ListIgnored => &["reports by lists"],
-        Reading::DaysBeforeMembership | Reading::DaysAfterWeight => {
-            &["decisions", "askings", "decisions by lists"]
-        }
-        Reading::DaysForgotten => &["reports", "reports by lists"],
+        Reading::DaysBeforeMembership | Reading::DaysAfterWeight => &[
+            "decisions",
+            "askings",
+            "decisions by lists",
+            "decisions vouched",
+        ],
+        Reading::DaysForgotten => &["reports", "reports by lists", "reports vouched"],
         Reading::DaysAtSigning => &["signings"],
         Reading::DaysTurned | Reading::OldLetters => OF_BASES,
+        Reading::LastEntryRequests | Reading::VouchingBeforeDays | Reading::VouchingAfterWeight => {
+            &["decisions vouched"]
+        }
+        Reading::RequesterFirst | Reading::RequesterAgain | Reading::FirstReport => {
+            &["reports vouched"]
+        }
         _ if Reading::WRONG_IN_LISTS.contains(&reading) => &["conflicts"],
         _ if Reading::WRONG_ON_SHEETS.contains(&reading) => &["signings"],
         _ if Reading::WRONG_OF_WITHDRAWAL.contains(&reading) => &["withdrawals"],
@@ -284,6 +331,9 @@ fn shows(reading: Reading) -> &'static [&'static str] {
         _ if Reading::WRONG_OF_PARAMETERS.contains(&reading) => &["parameters"],
         _ if Reading::WRONG_OF_RESOLUTION.contains(&reading) => {
             &["decisions by lists", "reports by lists"]
+        }
+        _ if Reading::WRONG_OF_VOUCHING.contains(&reading) => {
+            &["decisions vouched", "reports vouched"]
         }
         _ => OF_DECISIONS,
     }
@@ -304,6 +354,8 @@ fn expect(reading: Reading) {
         ("decisions by lists", decisions_by_that_differ(reading)),
         ("reports by lists", reports_by_that_differ(reading)),
         ("parameters", parameters_that_differ(reading)),
+        ("decisions vouched", decisions_vouched_that_differ(reading)),
+        ("reports vouched", reports_vouched_that_differ(reading)),
     ];
     println!("{reading:?}: {found:?}");
     let found = found.iter().filter(|(_, count)| *count > 0);
@@ -317,14 +369,47 @@ fn the_papers_reading_has_no_disagreement() {
 }
 
 #[test]
-fn every_wrong_reading_is_noticed() {
+fn every_wrong_reading_that_the_paper_names_is_noticed() {
     Reading::WRONG.into_iter().for_each(expect);
+}
+
+#[test]
+fn every_wrong_reading_of_lists_is_noticed() {
     Reading::WRONG_IN_LISTS.into_iter().for_each(expect);
+}
+
+#[test]
+fn every_wrong_reading_of_sheets_is_noticed() {
     Reading::WRONG_ON_SHEETS.into_iter().for_each(expect);
-    Reading::WRONG_OF_ACTING.into_iter().for_each(expect);
-    Reading::WRONG_OF_BOUNDS.into_iter().for_each(expect);
-    Reading::WRONG_OF_RESOLUTION.into_iter().for_each(expect);
     Reading::WRONG_OF_WITHDRAWAL.into_iter().for_each(expect);
+}
+
+#[test]
+fn every_wrong_reading_of_acting_is_noticed() {
+    Reading::WRONG_OF_ACTING.into_iter().for_each(expect);
+}
+
+#[test]
+fn every_wrong_reading_of_bounds_is_noticed() {
+    Reading::WRONG_OF_BOUNDS.into_iter().for_each(expect);
+}
+
+#[test]
+fn every_wrong_reading_of_resolution_is_noticed() {
+    Reading::WRONG_OF_RESOLUTION.into_iter().for_each(expect);
+}
+
+#[test]
+fn every_wrong_reading_of_parameters_is_noticed() {
     Reading::WRONG_OF_PARAMETERS.into_iter().for_each(expect);
+}
+
+#[test]
+fn every_wrong_reading_of_dates_is_noticed() {
     Reading::WRONG_OF_DATES.into_iter().for_each(expect);
+}
+
+#[test]
+fn every_wrong_reading_of_vouching_is_noticed() {
+    Reading::WRONG_OF_VOUCHING.into_iter().for_each(expect);
 }

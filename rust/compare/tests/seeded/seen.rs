@@ -1,6 +1,6 @@
 //! What the comparison saw: how often each answer and number came up, how far below
 //! their roles users acted, and what came of exclusions, resolution lists,
-//! withdrawals, codes tried and users' days.
+//! withdrawals, codes tried, users' days and registers.
 
 use std::io::Write;
 use std::time::Duration;
@@ -12,6 +12,7 @@ use compare::tally::Tally;
 use crate::dated::Dated;
 use crate::listed::Listed;
 use crate::tried::Tried;
+use crate::trusted::Trusted;
 use crate::withdrawn::Withdrawn;
 
 /// The library's calls.
@@ -29,12 +30,14 @@ pub enum Call {
     DecideBy,
     ReportBy,
     Parameter,
+    DecideVouched,
+    ReportVouched,
 }
 
-const CALLS: usize = 12;
+const CALLS: usize = 14;
 
 /// One past the last refusal's number.
-const REFUSALS: usize = 25;
+const REFUSALS: usize = 28;
 
 const NAMES: [&str; CALLS] = [
     "check",
@@ -49,6 +52,8 @@ const NAMES: [&str; CALLS] = [
     "decide_by",
     "report_by",
     "parameter",
+    "decide_vouched",
+    "report_vouched",
 ];
 
 /// The answers that each call can give.
@@ -71,6 +76,10 @@ const ANSWERS: [&[u8]; CALLS] = [
     ],
     &[0, 1, 2, 3, 4, 5, 6, 7, 8, 9, 22, 11, 19],
     &[0, 5],
+    &[
+        0, 1, 2, 3, 4, 5, 6, 7, 8, 9, 25, 27, 10, 11, 12, 13, 14, 15, 24, 26, 16, 17,
+    ],
+    &[0, 1, 2, 3, 4, 5, 6, 7, 8, 9, 25, 27, 11, 13, 19],
 ];
 
 /// Those that a sheet can get that calls made: no user stands on it twice.
@@ -88,10 +97,10 @@ const GAINS: [(Gain, &str); 3] = [
     (Gain::Group, "a group only by acting below a role held"),
 ];
 
-/// The fewest cases of each call: 1,100,000 and more in all.
+/// The fewest cases of each call: 1,200,000 and more in all.
 const FEWEST: [usize; CALLS] = [
     100_000, 150_000, 20_000, 40_000, 20_000, 100_000, 100_000, 100_000, 100_000, 150_000, 30_000,
-    200_000,
+    200_000, 100_000, 15_000,
 ];
 
 #[derive(Default)]
@@ -115,6 +124,7 @@ pub struct Seen {
     pub withdrawn: Withdrawn,
     pub tried: Tried,
     pub dated: Dated,
+    pub trusted: Trusted,
 }
 
 impl Seen {
@@ -242,6 +252,7 @@ impl Seen {
             .chain(self.withdrawn.lines())
             .chain(self.tried.lines())
             .chain(self.dated.lines())
+            .chain(self.trusted.lines())
             .chain([last])
             .collect();
         let text = format!("\n{}\n", lines.join("\n"));
@@ -275,13 +286,18 @@ impl Seen {
         self.withdrawn.expect_all();
         self.tried.expect_all();
         self.dated.expect_all();
+        self.trusted.expect_all();
     }
 }
 
 /// A line of the table: a name, the calls and their sum.
 fn line(name: &str, calls: [String; CALLS], all: &str) -> String {
-    let calls = calls.map(|call| format!("{call:>9}")).join(" ");
-    format!("{name:>6} {calls} {all:>9}")
+    let widths = NAMES.map(|name| name.len().max(9));
+    let calls = calls.iter().zip(widths);
+    let calls: Vec<String> = calls
+        .map(|(call, width)| format!("{call:>width$}"))
+        .collect();
+    format!("{name:>6} {} {all:>9}", calls.join(" "))
 }
 
 fn row(name: &str, seen: [usize; CALLS]) -> String {
