@@ -2,9 +2,11 @@
 
 use compare::questions::at_minute;
 use compare::shop::small_shop;
+use compare::trust::Trust;
 use model::{Context, Sheet};
 
 use crate::bases::*;
+use crate::registers::{trust, REQUESTER};
 use crate::worst;
 
 #[derive(Clone, Copy, PartialEq, Eq)]
@@ -24,6 +26,9 @@ pub enum Call {
     /// By [`LIST`].
     DecideBy,
     ReportBy,
+    /// By the case's trust; the report is for [`REQUESTER`].
+    DecideVouched,
+    ReportVouched,
     /// Of a parameter, with so many roles.
     Parameter(u32, u32),
 }
@@ -57,6 +62,7 @@ pub struct Case {
     pub call: Call,
     pub base: Vec<u8>,
     pub at: Context,
+    pub trust: Trust,
     /// Asked of permission 0, or bounded.
     pub group: Vec<u8>,
     /// For permission 0, holding the group.
@@ -90,6 +96,10 @@ impl Case {
         sheet
     }
 
+    fn lent_trust(&self) -> (&[u8], u32) {
+        (&self.trust.register, self.trust.threshold)
+    }
+
     fn by_library(&self, out: &mut Buffer) -> u64 {
         let at = compare::library_context(self.at);
         let number = |answer: release::answers::Answer| {
@@ -116,6 +126,16 @@ impl Case {
                 release::answers::decide_by(&self.base, 0, at, &LIST, &self.group).into()
             }
             Call::ReportBy => number(release::answers::report_by(&self.base, at, &LIST, out)),
+            Call::DecideVouched => {
+                let decide = release::answers::decide_vouched;
+                let (register, threshold) = self.lent_trust();
+                decide(&self.base, 0, at, register, threshold, &self.group).into()
+            }
+            Call::ReportVouched => {
+                let report = release::answers::report_vouched;
+                let (register, threshold) = self.lent_trust();
+                number(report(&self.base, at, register, threshold, REQUESTER, out))
+            }
             Call::Parameter(parameter, roles) => {
                 number(release::answers::parameter(parameter, roles))
             }
@@ -139,6 +159,18 @@ impl Case {
             }
             Call::DecideBy => twin::decide_by(&self.base, 0, self.at, &LIST, &self.group).into(),
             Call::ReportBy => number(twin::report_by(&self.base, self.at, &LIST, out)),
+            Call::DecideVouched => {
+                let decide = twin::decide_vouched;
+                let (register, threshold) = self.lent_trust();
+                decide(&self.base, 0, self.at, register, threshold, &self.group).into()
+            }
+            Call::ReportVouched => {
+                let report = twin::report_vouched;
+                let (register, threshold) = self.lent_trust();
+                number(report(
+                    &self.base, self.at, register, threshold, REQUESTER, out,
+                ))
+            }
             Call::Parameter(parameter, roles) => number(twin::parameter(parameter, roles)),
         }
     }
@@ -160,6 +192,18 @@ impl Case {
             }
             Call::DecideBy => model::decide_by(&self.base, 0, self.at, &LIST, &self.group).into(),
             Call::ReportBy => number(model::report_by(&self.base, self.at, &LIST, out)),
+            Call::DecideVouched => {
+                let decide = model::decide_vouched;
+                let (register, threshold) = self.lent_trust();
+                decide(&self.base, 0, self.at, register, threshold, &self.group).into()
+            }
+            Call::ReportVouched => {
+                let report = model::report_vouched;
+                let (register, threshold) = self.lent_trust();
+                number(report(
+                    &self.base, self.at, register, threshold, REQUESTER, out,
+                ))
+            }
             Call::Parameter(parameter, roles) => number(model::parameter(parameter, roles)),
         }
     }
@@ -218,6 +262,7 @@ pub fn cases() -> Vec<Case> {
     cases.extend(of_dates());
     cases.extend(of_users());
     cases.extend(by_list());
+    cases.extend(by_register());
     let plans = twin::worst::all().map(|(name, plan)| (name, plan.bytes()));
     let made = worst::all().map(|(name, base)| (name, base.bytes()));
     let reports = plans.into_iter().chain(made);
@@ -299,6 +344,52 @@ fn by_list() -> Vec<Case> {
     decisions.chain(reports).collect()
 }
 
+/// Decisions and reports by a register, on the bases of the first report that are
+/// usual or cost most, and on those that cost most with a register.
+fn by_register() -> Vec<Case> {
+    let six: Vec<u8> = (0..6).flat_map(|i| [i, i]).collect();
+    let shops = [
+        ("small shop", small_shop(), vec![0, 0, 2, 2]),
+        ("typical shop", typical_shop(), vec![0, 0, 6, 3]),
+        ("full base", full_base(), six),
+    ];
+    let decisions = shops.clone().map(|(name, base, group)| {
+        let base = base.bytes();
+        Case {
+            trust: trust(&base),
+            ..case(
+                &format!("vouch_decide {name}"),
+                Call::DecideVouched,
+                &base,
+                &group,
+            )
+        }
+    });
+    let shops = shops.map(|(name, base, _)| (name, base));
+    let bases = shops.into_iter().chain(worst::all());
+    let reports = bases.map(|(name, base)| {
+        let base = base.bytes();
+        report_vouched(&format!("vouch_report {name}"), &base, trust(&base))
+    });
+    let vouched = worst::all_vouched().into_iter();
+    let vouched = vouched.map(|(name, base, trust)| {
+        report_vouched(&format!("vouch_report {name}"), &base.bytes(), trust)
+    });
+    decisions
+        .into_iter()
+        .chain(reports)
+        .chain(vouched)
+        .collect()
+}
+
+/// A report on a base by a register.
+pub fn report_vouched(name: &str, base: &[u8], trust: Trust) -> Case {
+    Case {
+        trust,
+        ..case(name, Call::ReportVouched, base, &[])
+    }
+}
+
 /// A report on a base.
 pub fn report(name: &str, base: &[u8]) -> Case {
     case(name, Call::Report, base, &[])
@@ -313,6 +404,7 @@ fn case(name: &str, call: Call, base: &[u8], group: &[u8]) -> Case {
             date: DATE.into(),
             ..at_minute(600)
         },
+        trust: Trust::new(1, &[]),
         group: group.to_vec(),
         sheet: holding(group),
     }
@@ -334,7 +426,7 @@ mod tests {
         let shop = case.name.ends_with("shop");
         match case.call {
             Call::Decide if case.name.ends_with("out of date") => 24,
-            Call::Decide | Call::DecideBy | Call::Ask if !shop => 17,
+            Call::Decide | Call::DecideBy | Call::DecideVouched | Call::Ask if !shop => 17,
             Call::Withdraw(6) => 23,
             Call::Parameter(0, _) => 5,
             Call::Check if case.name.contains("refused") => 5,

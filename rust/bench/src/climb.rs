@@ -7,7 +7,7 @@ use compare::random::Random;
 use twin::counts::counts;
 
 use crate::bases::users;
-use crate::cases::{Who, ALL};
+use crate::cases::{Case, Who, ALL};
 use crate::counting::of_report;
 use crate::fit;
 use crate::worst;
@@ -15,9 +15,9 @@ use crate::worst;
 /// Climbs from a base of [`worst::all`] by what it costs one, prints what the
 /// base found costs and writes it to a file.
 pub fn print(seed: u64, steps: u64, name: &str, file: &str, who: Who) {
-    let start = worst::all().into_iter().find(|base| base.0 == name);
-    let (_, start) = start.unwrap_or_else(|| panic!("no base is called {name}"));
-    let found = climb(&mut Random::new(seed), steps, &start, who).bytes();
+    let start = worst_named(name);
+    let cost_of = |base: &BaseBuilder| cost(&base.bytes(), who);
+    let found = climb(&mut Random::new(seed), steps, &start, cost_of, changed).bytes();
     std::fs::write(file, &found).expect("the file can be written");
     for (which, base) in [("start", &start.bytes()), ("found", &found)] {
         let [library, twin] = [Who::Library, Who::Twin].map(|who| of_report(base, who));
@@ -30,9 +30,20 @@ pub fn print(seed: u64, steps: u64, name: &str, file: &str, who: Who) {
     }
 }
 
+/// One of [`worst::all`].
+pub fn worst_named(name: &str) -> BaseBuilder {
+    let base = worst::all().into_iter().find(|base| base.0 == name);
+    let (_, base) = base.unwrap_or_else(|| panic!("no base is called {name}"));
+    base
+}
+
 /// The numbers of approvers, by library, twin and model alike.
 fn numbers(base: &[u8]) -> Vec<u8> {
-    let case = crate::cases::report("found", base);
+    numbers_of(&crate::cases::report("found", base))
+}
+
+/// The same of a case.
+pub fn numbers_of(case: &Case) -> Vec<u8> {
     let [library, twin, model] = ALL.map(|who| {
         let mut out = [0; 3 * 2_784];
         case.answer(who, &mut out);
@@ -51,19 +62,26 @@ fn cost(base: &[u8], who: Who) -> f64 {
     }
 }
 
-fn climb(random: &mut Random, steps: u64, start: &BaseBuilder, who: Who) -> BaseBuilder {
-    let mut base = start.clone();
-    let mut now = cost(&base.bytes(), who);
-    let (mut best, mut most) = (base.clone(), now);
+/// Climbs from a start by steps that mostly cost more; what cost most.
+pub fn climb<T: Clone>(
+    random: &mut Random,
+    steps: u64,
+    start: &T,
+    cost: impl Fn(&T) -> f64,
+    changed: impl Fn(&mut Random, &T) -> T,
+) -> T {
+    let mut here = start.clone();
+    let mut now = cost(&here);
+    let (mut best, mut most) = (here.clone(), now);
     for step in 0..steps {
-        let next = changed(random, &base);
-        let then = cost(&next.bytes(), who);
+        let next = changed(random, &here);
+        let then = cost(&next);
         let heat = 0.03 * now * (1.0 - step as f64 / steps as f64).powi(2);
         if then >= now || share(random) < ((then - now) / heat).exp() {
-            (base, now) = (next, then);
+            (here, now) = (next, then);
         }
         if now > most {
-            (best, most) = (base.clone(), now);
+            (best, most) = (here.clone(), now);
         }
     }
     best
@@ -176,7 +194,8 @@ mod tests {
     #[test]
     fn a_climb_does_not_end_below_its_start() {
         let start = worst::gaps();
-        let found = climb(&mut Random::new(6), 50, &start, Who::Twin);
-        assert!(cost(&found.bytes(), Who::Twin) >= cost(&start.bytes(), Who::Twin));
+        let cost_of = |base: &BaseBuilder| cost(&base.bytes(), Who::Twin);
+        let found = climb(&mut Random::new(6), 50, &start, cost_of, changed);
+        assert!(cost_of(&found) >= cost_of(&start));
     }
 }

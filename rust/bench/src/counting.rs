@@ -11,11 +11,29 @@ pub fn instructions(case: &Case) -> [f64; 3] {
 
 /// The instructions of a report on a base.
 pub fn of_report(base: &[u8], who: Who) -> u64 {
+    of_written(&[("", base)], who)
+}
+
+/// The same by a register, for user 0.
+pub fn of_report_vouched(base: &[u8], register: &[u8], who: Who) -> u64 {
+    of_written(&[("", base), (REGISTER, register)], who)
+}
+
+/// What the name of a register's file has behind that of its base.
+pub const REGISTER: &str = ".register";
+
+/// The instructions of the report on what is written to these files, by the ends of
+/// their names.
+fn of_written(files: &[(&str, &[u8])], who: Who) -> u64 {
     let name = format!("bench-{}.base", std::process::id());
-    let file = std::env::temp_dir().join(name);
-    std::fs::write(&file, base).expect("the file can be written");
-    let count = counted(&file.to_string_lossy(), who);
-    std::fs::remove_file(&file).expect("the file can be removed");
+    let name = std::env::temp_dir().join(name).display().to_string();
+    for (end, bytes) in files {
+        std::fs::write(format!("{name}{end}"), bytes).expect("the file can be written");
+    }
+    let count = counted(&name, who);
+    for (end, _) in files {
+        std::fs::remove_file(format!("{name}{end}")).expect("the file can be removed");
+    }
     count
 }
 

@@ -11,11 +11,13 @@
 //!     bench --growth
 //!     bench --climb SEED STEPS BASE FILE WHO
 //!     bench --fit SEED BASES WHO
+//!     bench --climb-vouched SEED STEPS BASE FILE WHO
 //!
 //! The first prints how a report's instructions grow. The second looks for a
 //! base whose report costs `library` or `twin` more than that of one of the bases
 //! made to cost most: the library by its instructions, three steps a second, the
-//! twin by costs like those that the third fits to the instructions of either.
+//! twin by costs like those that the third fits to the instructions of either. The
+//! last looks so for a base and a register, by the instructions of either.
 //!
 //!     bench --once CASE WHO
 //!     bench --input CASE FILE
@@ -23,14 +25,17 @@
 //! The first makes one call by `library`, `twin` or `model`, for a tool that
 //! counts. The second writes a file: what program `release_list` reads to
 //! report on the case's base. In place of a case a file's name stands for the
-//! report on the base in it.
+//! report on the base in it, by the register in the file `FILE.register`, for
+//! user 0, where there is one.
 
 mod bases;
 mod cases;
 mod climb;
+mod climb_vouched;
 mod counting;
 mod fit;
 mod growth;
+mod registers;
 mod stack;
 mod timing;
 mod worst;
@@ -59,6 +64,9 @@ fn main() {
         ["--climb", seed, steps, base, file, by] => {
             climb::print(number(seed), number(steps), base, file, who_named(by));
         }
+        ["--climb-vouched", seed, steps, base, file, by] => {
+            climb_vouched::print(number(seed), number(steps), base, file, who_named(by));
+        }
         ["--fit", seed, bases, by] => fit::print(number(seed), number(bases), who_named(by)),
         ref some => {
             let cases = chosen(some);
@@ -84,10 +92,14 @@ fn who_named(name: &str) -> Who {
     who.unwrap_or_else(|| panic!("nobody is called {name}"))
 }
 
-/// The case with this name, or the report on the base in the file.
+/// The case with this name, or the report on the base in the file, by the register
+/// beside it if there is one.
 fn case_named(name: &str) -> Case {
     if let Ok(base) = std::fs::read(name) {
-        return cases::report(name, &base);
+        return match std::fs::read(format!("{name}{}", counting::REGISTER)) {
+            Ok(register) => cases::report_vouched(name, &base, registers::lent(register)),
+            Err(_) => cases::report(name, &base),
+        };
     }
     let case = cases().into_iter().find(|case| case.name == name);
     case.unwrap_or_else(|| panic!("there is no case {name}"))

@@ -71,11 +71,15 @@ mod tests {
         });
     }
 
+    fn is_report(call: Call) -> bool {
+        matches!(call, Call::Report | Call::ReportBy | Call::ReportVouched)
+    }
+
     /// On every base that is measured, those that cost most among them.
     #[test]
     fn a_report_takes_less_than_48_000_bytes() {
         let all = cases().into_iter();
-        for case in all.filter(|case| matches!(case.call, Call::Report | Call::ReportBy)) {
+        for case in all.filter(|case| is_report(case.call)) {
             for who in [Who::Twin, Who::Library] {
                 let taken = bytes_by(&case, who);
                 assert!(taken < 48_000, "{}: {taken} by {who:?}", case.name);
@@ -87,7 +91,7 @@ mod tests {
     #[test]
     fn every_other_call_takes_less_than_4_096_bytes() {
         let all = cases().into_iter();
-        for case in all.filter(|case| !matches!(case.call, Call::Report | Call::ReportBy)) {
+        for case in all.filter(|case| !is_report(case.call)) {
             let taken = bytes_by(&case, Who::Library);
             assert!(taken < 4_096, "{}: {taken}", case.name);
         }

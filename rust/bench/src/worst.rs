@@ -9,8 +9,10 @@
 //! at such multisets once more, one by one.
 
 use compare::builder::*;
+use compare::trust::Trust;
 
 use crate::bases::{full_base, users};
+use crate::registers::trust_of;
 
 /// All of them, with their names.
 pub fn all() -> [(&'static str, BaseBuilder); 10] {
@@ -26,6 +28,20 @@ pub fn all() -> [(&'static str, BaseBuilder); 10] {
         ("two chains", two_chains()),
         ("no takers", no_takers()),
     ]
+}
+
+/// Those made to cost most for user 0 by a register, which vouches for other users from
+/// one permission to the next.
+pub fn all_vouched() -> [(&'static str, BaseBuilder, Trust); 3] {
+    let all = [
+        ("all seniors", all_seniors(), 16),
+        ("few vouch", few_vouch(), 4),
+        ("role of nobody", role_of_nobody(), 16),
+    ];
+    all.map(|(name, base, count)| {
+        let trust = trust_of(&base.bytes(), count);
+        (name, base, trust)
+    })
 }
 
 /// The users of `twin::worst::spread`: who holds a role of a low number stands
@@ -180,11 +196,44 @@ pub fn no_takers() -> BaseBuilder {
     }
 }
 
+/// `wide_sums` where all users hold role 0 and act in every role.
+fn all_seniors() -> BaseBuilder {
+    BaseBuilder {
+        users: users(&[1; 24]),
+        ..wide_sums()
+    }
+}
+
+/// All users hold role 0, and four vouch. The sums of three clauses lie between those of
+/// multisets of one to four roles beside an entry; the last clause any six would meet,
+/// so that of eight multisets of five roles one meets it, and no five are there.
+fn few_vouch() -> BaseBuilder {
+    let base = BaseBuilder {
+        users: users(&[1; 24]),
+        ..heavy(&[(1, 4, 31); 4])
+    };
+    let base = with_clause(base, 1, &[(1, 4, 61); 4]);
+    let base = with_clause(base, 2, &[(1, 4, 46); 4]);
+    with_last(base, &[(0, 4, 6), (2, 3, 6), (1, 2, 20), (1, 2, 20)])
+}
+
+/// `no_takers` where any group that acts in role 0 and one other would do, and nobody
+/// may act in role 0: at every number of others multisets meet the clause in vain.
+fn role_of_nobody() -> BaseBuilder {
+    let base = BaseBuilder {
+        users: users(&[2; 24]),
+        ..no_takers()
+    };
+    let base = with_clause(base, 2, &[(1, 4, 13); 4]);
+    with_last(base, &[(3, 6, 1), (2, 3, 6), (1, 2, 10), (1, 5, 255)])
+}
+
 #[cfg(test)]
 mod tests {
     use super::*;
-    use compare::expect_report;
+    use crate::registers::REQUESTER;
     use compare::questions::at_minute;
+    use compare::{expect_report, expect_report_vouched};
 
     /// No group has an odd sum, and none acts in two roles that are one or in a
     /// role of nobody. Five are no six; else six in role 7, or in 6 and 7, are
@@ -195,6 +244,16 @@ mod tests {
             let sixes = ["last place", "wide sums", "light sixes", "shut out"].contains(&name);
             let k = if sixes { 6 } else { 0 };
             expect_report(&base.bytes(), at_minute(600), 208, &[k; 16]);
+        }
+    }
+
+    /// The same of groups for a requester.
+    #[test]
+    fn six_are_needed_or_no_group_is_vouched_for() {
+        for (name, base, trust) in all_vouched() {
+            let k = if name == "all seniors" { 6 } else { 0 };
+            let base = base.bytes();
+            expect_report_vouched(&base, at_minute(600), &trust, REQUESTER, 208, &[k; 16]);
         }
     }
 

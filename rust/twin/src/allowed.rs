@@ -1,7 +1,7 @@
 //! Which multisets of roles the users allow, by least ends: a multiset's is
 //! the least "one past the last user" of the groups by rising user that act in
-//! its roles. It is the same for every permission, and a level is made when one
-//! first asks for it.
+//! its roles. It is the same for every permission with the same users, and a level
+//! is made when one first asks for it.
 
 use crate::ends::{NextEnds, NOBODY};
 use crate::multisets::{Places, STARTS};
@@ -13,16 +13,18 @@ pub type Ups = [u16; 8];
 
 /// What the users allow, for multisets of roles below `roles`.
 pub struct Allowed<'a> {
-    roles: usize,
+    pub roles: usize,
     /// Up to how many roles the rest is known.
     pub known: usize,
+    /// Up to how many roles the ranks are known, from users before.
+    laid: usize,
     /// How many entries a group has at most, as far as known.
     pub most: usize,
     pub places: Places,
     /// The sets of roles; the empty set where no group acts in the roles.
     pub sets: &'a mut [u8],
     /// The least ends.
-    ends: &'a mut [u8],
+    pub ends: &'a mut [u8],
     /// The ranks with one role more, for multisets of up to four roles, and
     /// where those of two roles less than next and of one less start.
     ups: &'a mut [Ups],
@@ -41,6 +43,7 @@ impl Allowed<'_> {
         Allowed {
             roles,
             known: 0,
+            laid: 0,
             most: MOST,
             places: Places::new(roles),
             sets,
@@ -67,6 +70,28 @@ impl Allowed<'_> {
         }
     }
 
+    /// The same without sets.
+    #[inline(never)]
+    pub fn extend_ends(&mut self, next_ends: &NextEnds) {
+        self.known += 1;
+        let n = self.known;
+        self.grow(n, next_ends);
+        let (_, ends) = self.places.step(self.ends, n);
+        let least = ends[..STARTS[n][self.roles]]
+            .iter()
+            .fold(NOBODY, |least, &end| least.min(end));
+        if least == NOBODY {
+            self.most = self.most.min(n - 1);
+        }
+    }
+
+    /// For so many other users: the ranks stay.
+    pub fn renew(&mut self, users: usize) {
+        self.laid = self.laid.max(self.known);
+        self.known = 0;
+        self.most = users.min(MOST);
+    }
+
     /// The least ends of multisets of n roles.
     fn grow(&mut self, n: usize, next_ends: &NextEnds) {
         let (ends, next) = self.places.step(self.ends, n);
@@ -76,6 +101,12 @@ impl Allowed<'_> {
             push(&next_ends[0], &self.ups[0], next);
             self.before = 0;
             self.here = 1;
+            return;
+        }
+        let count = STARTS[n - 1][self.roles];
+        if n <= self.laid {
+            push_all(next_ends, &self.ups[self.here..][..count], ends, next);
+            (self.before, self.here) = (self.here, self.here + count);
             return;
         }
         for r in 0..self.roles {
@@ -96,8 +127,7 @@ impl Allowed<'_> {
                 }
             }
         }
-        self.before = self.here;
-        self.here += STARTS[n - 1][self.roles];
+        (self.before, self.here) = (self.here, self.here + count);
     }
 
     /// The sets of multisets of n roles, and the roles in any of them.
@@ -115,6 +145,17 @@ impl Allowed<'_> {
             }
         }
         some
+    }
+}
+
+/// One entry more in each role, for each multiset that some group acts in, by
+/// ranks that are there.
+#[inline(never)]
+fn push_all(next_ends: &NextEnds, ups: &[Ups], ends: &[u8], next: &mut [u8]) {
+    for (i, (up, &end)) in ups.iter().zip(ends).enumerate() {
+        if end != NOBODY {
+            push(&next_ends[usize::from(end)], up, &mut next[i..]);
+        }
     }
 }
 

@@ -15,9 +15,19 @@ pub type NextEnds = [[u8; 8]; 1 + NOBODY as usize];
 const ONES: u64 = 0x0101_0101_0101_0101;
 
 pub fn next_ends(users: &[User], juniors: &[u8; 8], date: u32) -> NextEnds {
+    let roles = users.iter().map(|user| roles_on(user, juniors, date));
+    next_ends_of(roles)
+}
+
+/// The same by the roles that each user may act in.
+#[inline(always)]
+pub fn next_ends_of<I>(roles: I) -> NextEnds
+where
+    I: DoubleEndedIterator<Item = u8> + ExactSizeIterator,
+{
     let mut ends = [[NOBODY; 8]; 1 + NOBODY as usize];
-    for (place, user) in users.iter().enumerate().rev() {
-        let acting = spread(roles_on(user, juniors, date));
+    for (place, roles) in roles.enumerate().rev() {
+        let acting = spread(roles);
         let later = u64::from_le_bytes(ends[place + 1]);
         let here = ONES * (place as u64 + 1);
         ends[place] = (here & acting | later & !acting).to_le_bytes();
@@ -27,7 +37,7 @@ pub fn next_ends(users: &[User], juniors: &[u8; 8], date: u32) -> NextEnds {
 
 /// The roles that the user may act in on the date, as a set.
 #[inline(always)]
-fn roles_on(user: &User, juniors: &[u8; 8], date: u32) -> u8 {
+pub fn roles_on(user: &User, juniors: &[u8; 8], date: u32) -> u8 {
     match in_days(user, date) {
         true => acting_roles(parameter_of(user), juniors),
         false => 0,

@@ -1,4 +1,4 @@
-//! The decision on a group: refusals 12 to 15, which a bound gives too, 24, 16
+//! The decision on a group: refusals 12 to 15, which a bound gives too, 24, 26, 16
 //! and 17.
 
 use crate::acting::{acting_roles, holds_role};
@@ -27,12 +27,13 @@ pub fn members<'a>(base: &Base, juniors: &[u8; 8], group: &'a [u8]) -> Result<&'
     Ok(entries)
 }
 
-/// 0 where the group is granted, else the first of refusals 12 to 15, 24, 16 and
-/// 17 that applies. The weights are asked for after 24.
+/// 0 where the group is granted, else the first of refusals 12 to 15, 24, 26, 16 and
+/// 17 that applies. The weights are asked for after 26.
 pub fn group_refusal(
     base: &Base,
     permission: u8,
     setting: &Setting,
+    lacking: impl FnOnce(&[[u8; 2]]) -> bool,
     weights: impl FnOnce() -> Weights,
     group: &[u8],
 ) -> u8 {
@@ -43,6 +44,9 @@ pub fn group_refusal(
     let in_days = |entry: &[u8; 2]| in_days(&base.users[usize::from(entry[0])], setting.date);
     if !entries.iter().all(in_days) {
         return 24;
+    }
+    if lacking(entries) {
+        return 26;
     }
     let w = weights();
     if entries.iter().any(|entry| weight_of(w, entry) == 0) {

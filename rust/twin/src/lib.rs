@@ -6,10 +6,13 @@ mod allowed;
 mod asked;
 mod back;
 mod base;
+mod beside;
 mod bound;
 mod check;
 mod conditions;
 pub mod counts;
+#[cfg(test)]
+mod draws;
 mod ends;
 mod groups;
 mod masks;
@@ -17,12 +20,14 @@ mod multisets;
 mod operators;
 mod parameter;
 pub mod plan;
+mod register;
 mod related;
 mod resolution;
 mod rows;
 mod search;
 mod sheet;
 mod users;
+mod vouched;
 mod weights;
 pub mod worst;
 
@@ -34,6 +39,7 @@ use weights::{Setting, Weights};
 pub use bound::bound;
 pub use parameter::parameter;
 pub use sheet::{sheet_ask, sheet_open, sheet_sign, sheet_withdraw};
+pub use vouched::{decide_vouched, report_vouched};
 
 /// The identity codes of roles 0 to 7.
 const CODES: [u32; 8] = [3, 5, 7, 11, 13, 17, 19, 23];
@@ -56,9 +62,14 @@ pub fn decide(base: &[u8], permission: u32, at: Context, group: &[u8]) -> u8 {
         Ok(base) => base,
         Err(refusal) => return refusal,
     };
-    decide_checked(&base, permission, at, group, |setting, permission| {
-        weights::role_weights(&base, setting, permission)
-    })
+    decide_checked(
+        &base,
+        permission,
+        at,
+        group,
+        |_| false,
+        |setting, permission| weights::role_weights(&base, setting, permission),
+    )
 }
 
 /// The same by a resolution list: the first of refusals 1 to 9, 22, 10 to 15, 24,
@@ -68,9 +79,14 @@ pub fn decide_by(base: &[u8], permission: u32, at: Context, list: &[u8], group: 
         Ok(both) => both,
         Err(refusal) => return refusal,
     };
-    decide_checked(&base, permission, at, group, |setting, permission| {
-        weights::role_weights_by(&base, setting, permission, &rules)
-    })
+    decide_checked(
+        &base,
+        permission,
+        at,
+        group,
+        |_| false,
+        |setting, permission| weights::role_weights_by(&base, setting, permission, &rules),
+    )
 }
 
 /// A base and a resolution list, or the first of refusals 1 to 9 and 22 that
@@ -80,13 +96,15 @@ fn read_both<'a>(base: &'a [u8], list: &[u8]) -> Result<(Base<'a>, Rules), u8> {
     Ok((base, Rules::read(list)?))
 }
 
-/// 0, or the first of refusals 10 to 15, 24, 16 and 17 that applies.
+/// 0, or the first of refusals 10 to 15, 24, 26, 16 and 17 that applies; whether it
+/// is 26 the entries are asked.
 #[inline(always)]
 fn decide_checked(
     base: &Base,
     permission: u32,
     at: Context,
     group: &[u8],
+    lacking: impl FnOnce(&[[u8; 2]]) -> bool,
     weights: impl FnOnce(&Setting, u8) -> Weights,
 ) -> u8 {
     if base.permissions.len() as u32 <= permission {
@@ -98,7 +116,7 @@ fn decide_checked(
     let setting = weights::setting(base, at);
     let permission = permission as u8;
     let weights = || weights(&setting, permission);
-    groups::group_refusal(base, permission, &setting, weights, group)
+    groups::group_refusal(base, permission, &setting, lacking, weights, group)
 }
 
 /// Writes the list of conflicts, 3 bytes each. The answer carries their
@@ -180,90 +198,8 @@ fn fill(
 #[cfg(test)]
 mod tests {
     use super::*;
-    use plan::{Condition, Plan};
-
-    const AT: Context = Context {
-        minute: 600,
-        day: 3,
-        zone: 1,
-        date: 900,
-    };
-
-    /// Numbers that look random and repeat from run to run.
-    struct Draws(u64);
-
-    impl Draws {
-        fn below(&mut self, end: usize) -> usize {
-            self.0 ^= self.0 << 13;
-            self.0 ^= self.0 >> 7;
-            self.0 ^= self.0 << 17;
-            (self.0 >> 16) as usize % end
-        }
-
-        fn byte(&mut self, first: u8, last: u8) -> u8 {
-            first + self.below(usize::from(last - first) + 1) as u8
-        }
-    }
-
-    fn random_plan(draws: &mut Draws) -> Plan {
-        let few_roles = |draws: &mut Draws| 1 << draws.byte(0, 7) | 1 << draws.byte(0, 7);
-        let edge = |draws: &mut Draws| {
-            let junior = draws.byte(1, 7);
-            (draws.byte(0, junior - 1), junior)
-        };
-        Plan {
-            permissions: 4,
-            users: (0..draws.below(25)).map(|_| few_roles(draws)).collect(),
-            hierarchy: (0..draws.below(12)).map(|_| edge(draws)).collect(),
-            policies: (0..draws.below(40))
-                .map(|i| {
-                    (
-                        draws.byte(0, 7),
-                        i as u8 % 4,
-                        draws.byte(1, 5),
-                        draws.byte(0, 1),
-                    )
-                })
-                .collect(),
-            clauses: (0..draws.below(8))
-                .map(|i| (i as u8 % 4, vec![condition(draws), condition(draws)]))
-                .collect(),
-        }
-    }
-
-    /// Where a table starts.
-    fn offset(base: &[u8], table: usize) -> usize {
-        let at = base.len() - 36 + 4 * table;
-        u16::from_le_bytes([base[at], base[at + 1]]).into()
-    }
-
-    /// The base with other days for its users, which begin or end at the date,
-    /// beside it or far from it.
-    fn with_days(draws: &mut Draws, mut base: Vec<u8>) -> Vec<u8> {
-        let date = AT.date as u16;
-        let users = offset(&base, 1)..offset(&base, 2);
-        for user in base[users].chunks_exact_mut(8) {
-            let first = [0, date - 1, date, date, date + 1][draws.below(5)];
-            let last = [date - 1, date, date, date + 1, 65_535][draws.below(5)];
-            user[4..6].copy_from_slice(&first.min(last).to_le_bytes());
-            user[6..].copy_from_slice(&last.max(first).to_le_bytes());
-        }
-        base
-    }
-
-    fn condition(draws: &mut Draws) -> Condition {
-        match draws.byte(0, 3) {
-            0 => (0, draws.byte(0, 5), draws.byte(1, 6)),
-            1 => (1, draws.byte(0, 5), draws.byte(1, 60)),
-            2 => (2, draws.byte(0, 5), draws.byte(1, 6)),
-            _ => (3, 6, 1 << draws.byte(0, 7)),
-        }
-    }
-
-    fn rises(group: &[u8]) -> bool {
-        let users: Vec<u8> = group.chunks_exact(2).map(|entry| entry[0]).collect();
-        users.windows(2).all(|pair| pair[0] < pair[1])
-    }
+    use crate::draws::*;
+    use plan::Plan;
 
     #[test]
     fn a_smallest_group_is_shown_for_each_permission() {
@@ -381,34 +317,6 @@ mod tests {
         assert_eq!(decide_by(&base, 0, AT, &[0], &[]), 12);
         assert_eq!(report_by(&base, late, &[0], &mut []).refusal, 11);
         assert_eq!(report_by(&base, AT, &[0], &mut []).refusal, 19);
-    }
-
-    /// Mostly a number below the end, at times one at it or far above.
-    fn number(draws: &mut Draws, first: u32, end: u32) -> u32 {
-        match draws.below(12) {
-            0 => [0, end, 255, 256 + first, u32::MAX][draws.below(5)],
-            _ => first + draws.below((end - first).max(1) as usize) as u32,
-        }
-    }
-
-    /// Users in a row, each in a role held; at times one byte is another, or the
-    /// last one is missing.
-    fn random_group(draws: &mut Draws, users: &[u8]) -> Vec<u8> {
-        let first = draws.below(users.len().max(1));
-        let count = draws.below(8);
-        let chosen = users.iter().enumerate().skip(first).take(count);
-        let mut group: Vec<u8> = chosen
-            .flat_map(|(user, roles)| [user as u8, roles.trailing_zeros() as u8])
-            .collect();
-        match draws.below(4) {
-            0 if !group.is_empty() => {
-                let place = draws.below(group.len());
-                group[place] = draws.byte(0, 24);
-            }
-            1 if draws.below(4) == 0 => _ = group.pop(),
-            _ => (),
-        }
-        group
     }
 
     /// The base with exclusions of eight roles and of four permissions.

@@ -36,6 +36,9 @@ pub fn in_chunks(count: usize) -> usize {
 pub const BYTES: usize = 3_136;
 pub const UPS: usize = 495;
 
+/// The bytes of the multisets of five of eight roles.
+pub const MANY: usize = 800;
+
 /// The same for five roles.
 pub const FEW_BYTES: usize = 608;
 pub const FEW_UPS: usize = 126;
