@@ -11,7 +11,7 @@ use Rattle.reader.specs.declared.refusal.Refusal.TheVariants.{Contexts, Policies
 use Rattle.reader.specs.declared.refusal.Refusal.TheVariants.{GroupLength, Unknown, Twice, Ineligible, Weightless}
 use Rattle.reader.specs.declared.refusal.Refusal.TheVariants.{Unmet, ConflictRoom, ReportRoom, FullSheet, Change}
 use Rattle.reader.specs.declared.refusal.Refusal.TheVariants.{Rules, NotSigned, OutOfDate, Register, Unvouched}
-use Rattle.reader.specs.declared.refusal.Refusal.TheVariants.{Threshold}
+use Rattle.reader.specs.declared.refusal.Refusal.TheVariants.{Threshold, Queries}
 use Rattle.reader.specs.declared.refusal.Refused.{Refused}
 use Rattle.reader.specs.Refusals.{refusal_number, number_of, carrying_nothing, answer_from}
 
@@ -43,6 +43,7 @@ refusal_pos OutOfDate h = suc-ne-zero 23 h
 refusal_pos Register h = suc-ne-zero 24 h
 refusal_pos Unvouched h = suc-ne-zero 25 h
 refusal_pos Threshold h = suc-ne-zero 26 h
+refusal_pos Queries h = suc-ne-zero 27 h
 
 -- a result that holds the refusal r
 pub handed_on : {X : Type 0} (r : Refusal) (given : Result X Refusal) → IsErrAnd given (λ e. e ≡ r) →

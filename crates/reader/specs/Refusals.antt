@@ -6,7 +6,7 @@ use Rattle.reader.specs.declared.refusal.Refusal.TheVariants.{Contexts, Policies
 use Rattle.reader.specs.declared.refusal.Refusal.TheVariants.{GroupLength, Unknown, Twice, Ineligible, Weightless}
 use Rattle.reader.specs.declared.refusal.Refusal.TheVariants.{Unmet, ConflictRoom, ReportRoom, FullSheet, Change}
 use Rattle.reader.specs.declared.refusal.Refusal.TheVariants.{Rules, NotSigned, OutOfDate, Register, Unvouched}
-use Rattle.reader.specs.declared.refusal.Refusal.TheVariants.{Threshold}
+use Rattle.reader.specs.declared.refusal.Refusal.TheVariants.{Threshold, Queries}
 use Rattle.reader.specs.declared.refusal.Refused.{Refused}
 use Rattle.reader.specs.declared.Answer.{Answer}
 
@@ -39,6 +39,7 @@ refusal_number OutOfDate = 24
 refusal_number Register = 25
 refusal_number Unvouched = 26
 refusal_number Threshold = 27
+refusal_number Queries = 28
 
 -- a refusal that carries 0
 abbrev pub carrying_nothing : Refusal → Refused

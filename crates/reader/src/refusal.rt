@@ -32,6 +32,7 @@ pub enum Refusal {
     Register = 25,
     Unvouched = 26,
     Threshold = 27,
+    Queries = 28,
 }
 
 // Its number in the list.
