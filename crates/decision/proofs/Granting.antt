@@ -85,7 +85,7 @@ pub record Members (U R : ℕ) (may : ℕ → ℕ → Bool) (g : List ℕ) : Typ
   pub acting : some_ineligible may g ≡ false
 
 -- a chain of four refusals before what follows is one chain
-one_chain : (p q r s : Bool) (left : ℕ) →
+pub one_chain : (p q r s : Bool) (left : ℕ) →
     let four = cond {A = ℕ} p 12 (cond q 13 (cond r 14 (cond s 15 0))) in
     cond (not (eqb four 0)) four left ≡ cond p 12 (cond q 13 (cond r 14 (cond s 15 left)))
 one_chain true q r s left = refl
@@ -140,7 +140,7 @@ module _ (U R : ℕ) (may : ℕ → ℕ → Bool) (g : List ℕ) where
   members_pass d = rw (d.whole, d.known, d.once, d.acting)
 
 -- a group of 1 to 6 whole entries is one that 12 doesn't refuse
-whole_length : (g : List ℕ) → length g ≡ 2 * entry_count g → 1 ≤ entry_count g → entry_count g ≤ 6 →
+pub whole_length : (g : List ℕ) → length g ≡ 2 * entry_count g → 1 ≤ entry_count g → entry_count g ≤ 6 →
     length_refused g ≡ false
 unfolding length_refused
 whole_length g whole some few =

@@ -37,7 +37,7 @@ pub empty_set : (a : ℕ) → ((r : ℕ) → in_set a r ≡ false) → a ≡ 0
 empty_set a h = same_set a a 0 (lt_power a) (pow_pos a) (λ r l. h r ∙ sym (in_none r))
 
 -- a set of numbers below n isn't 0 exactly where it has one of them
-some_in : (n a : ℕ) → ((r : ℕ) → in_set a r ≡ true → r < n) → not (eqb a 0) ≡ any_below n (in_set a)
+pub some_in : (n a : ℕ) → ((r : ℕ) → in_set a r ≡ true → r < n) → not (eqb a 0) ≡ any_below n (in_set a)
 some_in n a below = ⊎_elim
     (λ t. let e : a ≡ 0 = eqb-true a 0 t in rw (t, any_each (in_set a) n (λ r l. rw e (in_none r))))
     (λ t. rw t (by (met_or_not (any_below n (in_set a))) (eqb-false a 0 t))) (met_or_not (eqb a 0))
@@ -50,7 +50,7 @@ some_in n a below = ⊎_elim
     by t d = ⊎_elim (λ i. sym i) (λ i. absurd (d (empty_set a (none i)))) t
 
 -- the masks of an attribute once all clauses are done
-done : {k : List ℕ} {own count a : ℕ} {masks : List ℕ} → Narrowed k own 0 count a masks → (x b : ℕ) → x < count
+pub done : {k : List ℕ} {own count a : ℕ} {masks : List ℕ} → Narrowed k own 0 count a masks → (x b : ℕ) → x < count
     → in_set (get_or masks x 0) b ≡ (in_set own b && met k b a x)
 done n x b l = n.members x b l ∙ rw (in_none b)
 
@@ -81,7 +81,7 @@ module _ {k : List ℕ} {own count : ℕ} {asked : Asked} {sums : List ℕ}
       by false t false m e = refl
 
   -- a clause is in a set's mask where its conditions on the roles are met
-  in_sets : (v b : ℕ) → v < 2 ^ end → ((r : ℕ) → r < 8 → in_set v r ≡ true → 0 < get_or w r 0)
+  pub in_sets : (v b : ℕ) → v < 2 ^ end → ((r : ℕ) → r < 8 → in_set v r ≡ true → 0 < get_or w r 0)
       → in_set (get_or sets v 0) b ≡ (in_set own b && (met k b 2 (role_num (bit_or start v))
       && all_below 8 (λ r. in_set (bit_or start v) r || met k b 3 r)))
   in_sets v b l h =
