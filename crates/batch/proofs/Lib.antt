@@ -1,0 +1,11 @@
+pub mod Asking
+pub mod Answering
+pub mod Gathering
+pub mod Weighing
+pub mod Words
+pub mod Looking
+pub mod Present
+pub mod Masking
+pub mod Weighed
+pub mod Deciding
+pub mod Laws

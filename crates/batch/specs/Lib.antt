@@ -1,0 +1,4 @@
+pub mod Queries
+pub mod Batch
+pub mod Asked
+pub mod Steps
