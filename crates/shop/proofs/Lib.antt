@@ -6,3 +6,4 @@ pub mod TakenBack
 pub mod Parameters
 pub mod Dated
 pub mod Vouched
+pub mod Refreshed

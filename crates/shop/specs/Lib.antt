@@ -7,3 +7,4 @@ pub mod TakenBack
 pub mod Parameters
 pub mod Dated
 pub mod Vouched
+pub mod Refreshed
