@@ -15,7 +15,7 @@
  * it is 0 of every refusal but 18 of release_conflicts and 5 of release_parameter.
  * An answer depends on the arguments alone.
  *
- * Contexts. Seven calls take a context: a minute (0 to 1439), a day of the week (0
+ * Contexts. Eight calls take a context: a minute (0 to 1439), a day of the week (0
  * to 6), a zone (0 to 255) and a date (0 to 65535), in this order, each a number of
  * its own. The date counts days as the first and last days of the base's users do,
  * and those of a register's statements. Which policies are active depends on
@@ -28,21 +28,21 @@
  * an older header has to be compiled anew.
  *
  * Pointers. A slice passes as a pointer and its length in bytes.
- * - The pointer is valid for that length: base, list, statements (a register) and
- *   group to read, out to read and write. It needs no alignment. Nothing beyond the
- *   length is read or written.
+ * - The pointer is valid for that length: base, list, statements (a register),
+ *   group and queries to read, out and answers to read and write. It needs no
+ *   alignment. Nothing beyond the length is read or written.
  * - With length 0 the pointer may be anything, NULL too: it isn't followed.
  *   With a length above 0 it isn't NULL; nothing checks that.
- * - out overlaps neither base, list nor statements. base, list, statements and
- *   group may overlap.
+ * - out overlaps neither base, list nor statements, and answers neither base nor
+ *   queries. base, list, statements, group and queries may overlap.
  * A sheet passes as a pointer alone.
  * - The pointer is valid for 14 bytes: to read and write for opening, signing
  *   and withdrawing, to read for asking. It needs no alignment, and nothing
  *   beyond is read or written. It is never NULL; nothing checks that.
  * - base and a sheet that is opened or signed don't overlap. base and a sheet
  *   that is asked may.
- * Nobody else writes the bytes during the call, and nobody else reads out or a
- * sheet that is opened, signed or withdrawn from. The library keeps no pointer
+ * Nobody else writes the bytes during the call, and nobody else reads out, answers
+ * or a sheet that is opened, signed or withdrawn from. The library keeps no pointer
  * when the call has returned.
  *
  * Threads. There is no state between calls and nothing is allocated. Any
@@ -51,8 +51,8 @@
  * its own to open, sign or withdraw from.
  *
  * Stack. release_report, release_report_by and release_vouch_report take about
- * 30,000 bytes, every other call less than 4,096. A thread with 64 KiB of stack
- * suffices for each.
+ * 30,000 bytes, release_batch about 10,500, every other call less than 4,096. A
+ * thread with 64 KiB of stack suffices for each.
  */
 #ifndef RELEASE_H
 #define RELEASE_H
@@ -111,15 +111,25 @@ enum release_rule {
 #define RELEASE_STATEMENT_BYTES 8
 #define RELEASE_LONGEST_REGISTER 2048
 
+/* A query has 14 bytes: at 0 its permission, at 1 the number of its entries, from
+   2 on six entries of 2 bytes: user, role acted in. Its group is the first of them,
+   as many as byte 1 says. A batch has up to 1,024 queries and an answer of one byte
+   for each. */
+#define RELEASE_QUERY_BYTES 14
+#define RELEASE_QUERY_PERMISSION 0
+#define RELEASE_QUERY_COUNT 1
+#define RELEASE_QUERY_ENTRIES 2
+#define RELEASE_MOST_QUERIES 1024
+
 /* The refusals; each call's comment says which it can give. They are checked in
    rising order, but for 22, 25 and 27, which come after 9, and 24 and 26, which
    come after 15: for a decision the order is 1 to 15, 24, 16, 17, for one by a list
    1 to 9, 22, 10 to 15, 24, 16, 17, for one by a register 1 to 9, 25, 27, 10 to 15,
    24, 26, 16, 17, for a report by a list 1 to 9, 22, 11, 19, for one by a register
    1 to 9, 25, 27, 11, 13, 19, for signing 1 to 9, 13, 14, 15, 20, for a bound 1 to
-   9, 12 to 15, 21. The tables of a base are H (hierarchy), U (users), P
-   (permissions), K (group clauses), C (context clauses), A (policies) and X
-   (exclusions); R is the number of roles. */
+   9, 12 to 15, 21, for a batch 1 to 9, 11, 28. The tables of a base are H
+   (hierarchy), U (users), P (permissions), K (group clauses), C (context clauses),
+   A (policies) and X (exclusions); R is the number of roles. */
 enum release_refusal {
     /* No refusal: granted or done. */
     RELEASE_DONE = 0,
@@ -148,7 +158,8 @@ enum release_refusal {
     RELEASE_REFUSAL_NO_PERMISSION = 10,
     /* Minute, day, zone or date is out of range. */
     RELEASE_REFUSAL_CONTEXT = 11,
-    /* The group's length is 0, odd or above 12. */
+    /* The group's length is 0, odd or above 12; of a query, its number of entries
+       is 0 or above 6. */
     RELEASE_REFUSAL_GROUP_LENGTH = 12,
     /* An entry's user isn't in U, or its role isn't below R; of
        release_vouch_report, the requester isn't in U. */
@@ -185,7 +196,10 @@ enum release_refusal {
        requester. */
     RELEASE_REFUSAL_NOT_VOUCHED = 26,
     /* The threshold isn't 1 to 5. */
-    RELEASE_REFUSAL_THRESHOLD = 27
+    RELEASE_REFUSAL_THRESHOLD = 27,
+    /* The query bytes aren't whole queries of 14, the queries are more than 1,024,
+       or the answer buffer is shorter than their number. */
+    RELEASE_REFUSAL_QUERIES = 28
 };
 
 #ifdef __cplusplus
@@ -251,6 +265,29 @@ uint32_t release_vouch_decide(const uint8_t *base, size_t base_len,
                               const uint8_t *statements, size_t statements_len,
                               uint32_t threshold,
                               const uint8_t *group, size_t group_len);
+
+/*
+ * A batch of queries about one base in one context: 0, or the first of refusals 1
+ * to 9, 11 and 28 that applies. The base is checked once for all of them, which
+ * makes a batch much quicker than a call of release_decide for each query.
+ *
+ * Of 0, the first byte of answers is the answer to the first query, the next to the
+ * second and so on: what release_decide answers for the query's permission, the
+ * context and the group of its first n entries, where n is the query's number of
+ * entries. So it is 10 if the permission isn't in P, else 12 if n is 0 or above 6,
+ * else the first of 13, 14, 15, 24, 16 and 17 that applies, or 0 if the group is
+ * granted the permission. Entries behind the first n may hold any bytes and change
+ * no answer. One query's answer depends on no other query. Later bytes of answers
+ * keep their contents.
+ *
+ * With no query at all it is 0 and no byte is written, and answers may have length
+ * 0 too; a context out of range is refused by 11 even then.
+ */
+uint32_t release_batch(const uint8_t *base, size_t base_len,
+                       uint32_t minute, uint32_t day, uint32_t zone,
+                       uint32_t date,
+                       const uint8_t *queries, size_t queries_len,
+                       uint8_t *answers, size_t answers_len);
 
 /*
  * The release report: refusal + 256 * count. The refusal is 0, or the first of

@@ -9,6 +9,7 @@ ghost use Rattle.report.specs.Report.{answer_of, answer_lent, ReportedOf, Report
 ghost use Rattle.report.specs.Demand.{Demanded, DemandedLent};
 ghost use Rattle.vouch.specs.Decision.{decision_vouched};
 ghost use Rattle.vouch.specs.Report.{answer_vouched, ReportedVouched, DemandedVouched};
+ghost use Rattle.batch.specs.Batch.{batch_refusal, batch_bytes};
 ghost use Rattle.conflicts.specs.Conflicts.{conflict_answer, conflict_bytes};
 ghost use Rattle.exports.specs.Contexts.{at};
 ghost use Rattle.exports.specs.Packed.{packed, unpacked};
@@ -162,6 +163,26 @@ pub extern "C" fn release_vouch_report(
 {
     let at = context(minute, day, zone, date);
     pack(vouch::report_vouched(base, at, register, threshold, requester, out))
+}
+
+// The batch: 0, and the answer to each query in answers, a byte each, or the first of refusals 1 to 9, 11 and 28 that
+// applies. answers overlaps neither base nor queries.
+#[unsafe(no_mangle)]
+pub extern "C" fn release_batch(
+    base: &[u8],
+    minute: u32,
+    day: u32,
+    zone: u32,
+    date: u32,
+    queries: &[u8],
+    answers: &mut [u8],
+) -> u32
+    ensures refusal { result ≡
+        batch_refusal base.now (at minute day zone date) (length queries.now) (length answers.old) }
+    ensures bytes { answers.new ≡ batch_bytes base.now (at minute day zone date) queries.now answers.old }
+{
+    let at = context(minute, day, zone, date);
+    number(batch::batch(base, at, queries, answers))
 }
 
 // The conflict list: 0, and the list in out, or the first of refusals 1 to 9 and 18; plus 256 times the count, which
