@@ -3,6 +3,7 @@
 
 use model::Reading;
 
+use crate::batches::expect_query;
 use crate::calls::Decision;
 use crate::hex;
 use crate::lists::List;
@@ -54,9 +55,11 @@ pub fn sums_that_tell(weight: u8) -> Vec<(u8, u8)> {
     vec![(weight - 1, 17), (weight, 0), (weight + 1, 17)]
 }
 
-/// Asserts that all of them give this answer.
+/// Asserts that all of them give this answer, and the library to a query too that
+/// asks the same.
 pub fn expect_decision(base: &[u8], asked: &Asked, answer: u8) {
     expect(base, Decision::By(None), asked, answer);
+    expect_query(base, asked, answer);
 }
 
 /// The same by a list.

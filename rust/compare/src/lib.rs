@@ -1,6 +1,7 @@
 //! Bases to try, and the comparison of the library's answers with the model's.
 
 pub mod acting;
+pub mod batches;
 pub mod bounds;
 pub mod builder;
 pub mod calls;
@@ -21,6 +22,7 @@ pub mod lively;
 pub mod mornings;
 pub mod parameters;
 pub mod products;
+pub mod queries;
 pub mod questions;
 pub mod random;
 mod reports;

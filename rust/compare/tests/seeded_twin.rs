@@ -1,6 +1,7 @@
 //! Compares the tuned twin with the library, and for a requester with the model
 //! too. Which smallest group a report shows is free.
 
+use compare::batches::Batch;
 use compare::bounds::Changed;
 use compare::builder::{BaseBuilder, OLD_LETTERS};
 use compare::capped::capped_base;
@@ -13,6 +14,7 @@ use compare::lists::{any_list, List};
 use compare::lively::{full_base, heavy_base, lively_base};
 use compare::mornings::{loose_sheets, morning, Morning};
 use compare::products::random_parameters;
+use compare::queries::{any_room, batch_for, loose_batch};
 use compare::questions::{any_context, any_permission, random_question, Asked};
 use compare::random::Random;
 use compare::rivals::rival_base;
@@ -115,6 +117,17 @@ fn any_trust(random: &mut Random, base: &[u8], at: Context) -> (Trust, u32) {
         }
         Err(_) => (loose_trust(random), random.below(30) as u32),
     }
+}
+
+/// Asserts that the two answer a batch alike and leave the same bytes.
+fn compare_batch(random: &mut Random, base: &[u8], batch: &Batch) {
+    let room = any_room(random, batch);
+    let mut by_library = Lent::noisy(random, room);
+    let mut by_twin = by_library.clone();
+    let library = batch.by_library(base, by_library.buffer());
+    let twin = twin::batch(base, batch.at, &batch.queries, by_twin.buffer());
+    assert_eq!(u32::from(twin), library);
+    assert_eq!(by_twin.first_difference(&by_library), None);
 }
 
 /// Asserts that the two give the same bound.
@@ -244,4 +257,21 @@ fn parameters() {
     random_parameters(86, 100_000, |checked| {
         assert_eq!(checked.by_twin(), checked.by_library(), "{checked:?}");
     });
+}
+
+#[test]
+fn batches() {
+    let mut random = Random::new(87);
+    for _ in 0..4_000 {
+        let records = sound_base(&mut random);
+        let image = records.image();
+        let base = Base::read(&image.bytes).expect("the base passes");
+        let asked = random_question(&mut random, &records, &base);
+        let batch = batch_for(&mut random, &base, &asked);
+        let damaged = any_damage(&mut random, &image);
+        let loose = loose_batch(&mut random, asked.at);
+        compare_batch(&mut random, &image.bytes, &batch);
+        compare_batch(&mut random, &damaged, &batch);
+        compare_batch(&mut random, &image.bytes, &loose);
+    }
 }

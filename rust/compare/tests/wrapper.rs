@@ -1,5 +1,6 @@
 //! The wrapper's typed functions say what the library's own answers say.
 
+use compare::batches::Batch;
 use compare::builder::{BaseBuilder, User};
 use compare::cases::*;
 use compare::clashing::clashing_base;
@@ -7,6 +8,7 @@ use compare::lists::{ILLEGAL, LEGAL};
 use compare::lively::full_base;
 use compare::parameters::Checked;
 use compare::products::random_parameters;
+use compare::queries::{any_room, batch_for, loose_batch};
 use compare::questions::{at_date, at_minute, random_question, Asked};
 use compare::random::Random;
 use compare::rivals::rival_base;
@@ -18,7 +20,8 @@ use model::{Base, Reading};
 use release::answers::{self, Answer};
 use release::example::SMALL_SHOP;
 use release::{
-    Context, Entry, Permission, Refusal, Register, Report, Resolution, Rule, Sheet, SHEET_BYTES,
+    Context, Entry, Permission, Query, Refusal, Register, Report, Resolution, Rule, Sheet,
+    SHEET_BYTES,
 };
 
 /// A result's refusal as a number, 0 for none.
@@ -183,6 +186,62 @@ fn expect_report_vouched(base: &[u8], at: model::Context, trust: &Trust, request
             assert_eq!(report.bytes(), out);
             assert_eq!(told(&report), again);
         }
+    }
+}
+
+/// In batches made for the question and of any bytes: the library's own answers, and
+/// the model's.
+fn expect_batches(random: &mut Random, base: &[u8], asked: &Asked) {
+    let made = Base::read(base).map(|base| batch_for(random, &base, asked));
+    for batch in made.into_iter().chain([loose_batch(random, asked.at)]) {
+        let room = any_room(random, &batch);
+        expect_batch_into(base, &batch, room);
+        if batch.queries.len() == batch.queries().len() * release::QUERY_BYTES {
+            expect_typed_batch(base, &batch);
+        }
+    }
+}
+
+fn expect_batch_into(base: &[u8], batch: &Batch, room: usize) {
+    let at = library_context(batch.at);
+    let [mut expected, mut by_model, mut found] = [0; 3].map(|_| vec![7; room]);
+    let answer = answers::batch(base, at, &batch.queries, &mut expected);
+    let model = model::batch(base, batch.at, &batch.queries, &mut by_model);
+    assert_eq!((answer, &expected), (model.into(), &by_model));
+    let done = release::batch_into(base, at, &batch.queries, &mut found);
+    assert_eq!((number(&done), &found), (answer, &expected));
+}
+
+fn expect_typed_batch(base: &[u8], batch: &Batch) {
+    let at = library_context(batch.at);
+    let queries = batch.queries().iter().copied().map(Query::from_bytes);
+    let queries: Vec<Query> = queries.collect();
+    let bytes: Vec<u8> = queries.iter().flat_map(|query| query.bytes()).collect();
+    assert_eq!(bytes, batch.queries);
+    let mut expected = vec![7; queries.len()];
+    let answer = answers::batch(base, at, &batch.queries, &mut expected);
+    let answers = release::batch(base, at, &queries);
+    assert_eq!(number(&answers), answer);
+    if let Ok(answers) = answers {
+        assert_eq!(answers.len(), queries.len());
+        let answers: Vec<Result<(), Refusal>> = answers.collect();
+        let numbers = answers.iter().map(number);
+        assert!(numbers.eq(expected.into_iter().map(u32::from)));
+        let pairs = queries.iter().zip(answers);
+        pairs.for_each(|(query, answer)| expect_remade(base, at, query, answer));
+    }
+}
+
+/// A query made of what the wrapper reads in one gets the same answer, and the
+/// decision on it too.
+fn expect_remade(base: &[u8], at: Context, query: &Query, answer: Result<(), Refusal>) {
+    if query.bytes()[1] <= 6 {
+        let entries: Vec<Entry> = query.entries().collect();
+        let remade = Query::new(query.permission(), &entries);
+        let mut again = release::batch(base, at, &[remade]).expect("the batch was answered");
+        assert_eq!(again.next(), Some(answer));
+        let decided = release::decide(base, query.permission().into(), at, &entries);
+        assert_eq!(decided, answer);
     }
 }
 
@@ -425,6 +484,17 @@ fn by_registers() {
 }
 
 #[test]
+fn by_batches() {
+    let mut random = Random::new(371);
+    let mut compare = |base: &[u8], asked: &Asked| expect_batches(&mut random, base, asked);
+    lively_bases(372, 100, &mut compare);
+    full_bases(373, 5, &mut compare);
+    valid_bases(374, 50, &mut compare);
+    damaged_bases(375, 50, &mut compare);
+    loose_bytes(376, 500, &mut compare);
+}
+
+#[test]
 fn parameters() {
     random_parameters(92, 10_000, expect_parameter);
     for roles in 0..=9 {
@@ -459,6 +529,11 @@ fn the_shortest_base_and_no_bytes() {
         expect_by_lists(&base, &Asked::new(0, at_minute(0), &[]));
         expect_vouched(
             &mut Random::new(0),
+            &base,
+            &Asked::new(0, at_minute(0), &[]),
+        );
+        expect_batches(
+            &mut Random::new(1),
             &base,
             &Asked::new(0, at_minute(0), &[]),
         );

@@ -7,6 +7,7 @@
 mod acting;
 mod answer;
 mod base;
+mod batch;
 mod bound;
 mod check;
 mod choice;
@@ -43,6 +44,7 @@ mod weight;
 pub use acting::Acting;
 pub use answer::Answer;
 pub use base::Base;
+pub use batch::{batch, batch_as};
 pub use bound::{bound, bound_as, Change};
 pub use check::{check, check_as};
 pub use choice::{Choice, Choices};

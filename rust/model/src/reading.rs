@@ -173,6 +173,16 @@ pub enum Reading {
     RequesterAgain,
     /// A report for a requester has the numbers of the first report.
     FirstReport,
+    /// A query is answered 12 before 10.
+    CountBeforePermission,
+    /// All six entries of a query are its group, however many count.
+    UnusedRead,
+    /// A query that counts more than six entries has six.
+    CountCut,
+    /// A batch is refused by 28 before 11.
+    QueriesBeforeContext,
+    /// The bytes behind a batch's answers become 0.
+    LaterCleared,
 }
 
 impl Reading {
@@ -291,6 +301,15 @@ impl Reading {
         Reading::RequesterFirst,
         Reading::RequesterAgain,
         Reading::FirstReport,
+    ];
+
+    /// Wrong readings that only a batch of queries shows.
+    pub const WRONG_OF_BATCHES: [Reading; 5] = [
+        Reading::CountBeforePermission,
+        Reading::UnusedRead,
+        Reading::CountCut,
+        Reading::QueriesBeforeContext,
+        Reading::LaterCleared,
     ];
 }
 

@@ -30,6 +30,7 @@ pub enum Refusal {
     Register = 25,
     NotVouched = 26,
     Threshold = 27,
+    Queries = 28,
 }
 
 impl Refusal {

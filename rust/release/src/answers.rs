@@ -196,6 +196,33 @@ pub fn report_vouched(
     Answer::from_number(number)
 }
 
+/// Answers each query, 14 bytes: its permission, the number of its entries that
+/// count, 1 to 6, and six entries. Its answer is that of [`decide`] for its
+/// permission and those entries, in its byte of the buffer, in order: 0, or the
+/// first of 10, 12 to 15, 24, 16 and 17 that applies. Later bytes keep their
+/// contents. The answer to the call is 0, or the first of refusals 1 to 9, 11 and 28
+/// that applies. No refusal writes.
+///
+/// ```
+/// use release::example::SMALL_SHOP;
+/// use release::{answers, Context};
+///
+/// let at = Context::new(600, 0, 0, 900);
+/// let queries = [
+///     [0, 2, 0, 0, 2, 2, 0, 0, 0, 0, 0, 0, 0, 0],
+///     [1, 0, 0, 0, 2, 2, 0, 0, 0, 0, 0, 0, 0, 0],
+/// ];
+/// let mut buffer = [77; 3];
+/// assert_eq!(answers::batch(&SMALL_SHOP, at, queries.as_flattened(), &mut buffer), 0);
+/// assert_eq!(buffer, [0, 10, 77]);
+///
+/// assert_eq!(answers::batch(&SMALL_SHOP, at, &[0; 13], &mut buffer), 28);
+/// assert_eq!(answers::batch(&SMALL_SHOP, at, &[0; 14], &mut []), 28);
+/// ```
+pub fn batch(base: &[u8], at: Context, queries: &[u8], buffer: &mut [u8]) -> u32 {
+    library::batch(base, at, queries, buffer)
+}
+
 /// Writes the list of conflicts, 3 bytes each, into the buffer's first bytes.
 /// The answer is 0 and their number, 18 and the number that would be written,
 /// or the first of refusals 1 to 9 that applies and 0. No refusal writes.

@@ -13,6 +13,7 @@
 //! | [`decide`], [`decide_bytes`] | may this group release this permission? |
 //! | [`report`], [`report_into`] | which smallest group can release each permission? |
 //! | [`decide_by`], [`decide_by_bytes`], [`report_by`], [`report_by_into`] | the same where a [`Resolution`] says which of several policies counts |
+//! | [`batch`], [`batch_into`] | may each of these groups release its permission? |
 //! | [`decide_vouched`], [`decide_vouched_bytes`], [`report_vouched`], [`report_vouched_into`] | the same of a requester and those who vouch for the requester by a [`Register`] |
 //! | [`conflicts`], [`conflicts_into`], [`conflict_count`] | which records of the base conflict? |
 //! | [`bound`], [`bound_bytes`] | how far can a policy's new weight shift this group's sum of weights? |
@@ -35,8 +36,8 @@
 //! ```
 //!
 //! Nothing is kept between calls, so any number of threads may call at once.
-//! A report, of whichever kind, takes about 30,000 bytes of stack, every other call
-//! less than 4,096: a thread with 64 KiB suffices.
+//! A report, of whichever kind, takes about 30,000 bytes of stack, a batch about
+//! 10,500, every other call less than 4,096: a thread with 64 KiB suffices.
 //!
 //! The static library is built by `tools/build` before this crate.
 
@@ -45,6 +46,7 @@
 #![deny(unsafe_code)]
 
 pub mod answers;
+mod batch;
 mod bound;
 mod conflicts;
 mod context;
@@ -59,6 +61,7 @@ mod resolution;
 mod sheet;
 mod vouching;
 
+pub use batch::{batch, batch_into, Answers, Query, MOST_QUERIES, QUERY_BYTES};
 pub use bound::{bound, bound_bytes};
 pub use conflicts::{conflict_count, conflicts, conflicts_into, Conflict, CONFLICT_BYTES};
 pub use context::Context;

@@ -88,6 +88,19 @@ mod foreign {
             out_len: usize,
         ) -> u64;
 
+        pub fn release_batch(
+            base: *const u8,
+            base_len: usize,
+            minute: u32,
+            day: u32,
+            zone: u32,
+            date: u32,
+            queries: *const u8,
+            queries_len: usize,
+            answers: *mut u8,
+            answers_len: usize,
+        ) -> u32;
+
         pub fn release_conflicts(
             base: *const u8,
             base_len: usize,
@@ -273,6 +286,26 @@ pub fn report_vouched(
             requester,
             out.as_mut_ptr(),
             out.len(),
+        )
+    }
+}
+
+pub fn batch(base: &[u8], at: Context, queries: &[u8], answers: &mut [u8]) -> u32 {
+    // SAFETY: the pointers and lengths are those of three slices, of which the
+    // third overlaps neither other one. The library only reads the first two and
+    // writes the third within its length, and only during the call.
+    unsafe {
+        foreign::release_batch(
+            base.as_ptr(),
+            base.len(),
+            at.minute,
+            at.day,
+            at.zone,
+            at.date,
+            queries.as_ptr(),
+            queries.len(),
+            answers.as_mut_ptr(),
+            answers.len(),
         )
     }
 }

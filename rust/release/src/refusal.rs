@@ -38,7 +38,8 @@ pub enum Refusal {
     NoPermission = 10,
     /// 11: minute, day, zone or date is out of range.
     Context = 11,
-    /// 12: the group's length is 0, odd or above 12.
+    /// 12: the group's length is 0, odd or above 12; of a query, its number of
+    /// entries is 0 or above 6.
     GroupLength = 12,
     /// 13: an entry's user isn't in U, or its role isn't below R; of a report for a
     /// requester, the requester isn't in U.
@@ -78,11 +79,14 @@ pub enum Refusal {
     NotVouched = 26,
     /// 27: the threshold isn't 1 to 5. It comes after 25 and before 10.
     Threshold = 27,
+    /// 28: the query bytes aren't whole queries of 14, the queries are more than
+    /// 1,024, or the answer buffer is shorter than their number. It comes after 11.
+    Queries = 28,
 }
 
 impl Refusal {
     /// Every refusal, by number.
-    pub const ALL: [Refusal; 27] = [
+    pub const ALL: [Refusal; 28] = [
         Refusal::Length,
         Refusal::Letters,
         Refusal::Trailer,
@@ -110,9 +114,10 @@ impl Refusal {
         Refusal::Register,
         Refusal::NotVouched,
         Refusal::Threshold,
+        Refusal::Queries,
     ];
 
-    /// The refusal's number, 1 to 27.
+    /// The refusal's number, 1 to 28.
     ///
     /// ```
     /// assert_eq!(release::Refusal::UserTwice.number(), 14);
@@ -205,6 +210,10 @@ impl Refusal {
                 "the user of an entry but the first has no statement that vouches for the requester"
             }
             Refusal::Threshold => "the threshold isn't 1 to 5",
+            Refusal::Queries => {
+                "the query bytes aren't whole queries of 14, the queries are more than 1,024, \
+                 or the answer buffer is shorter than their number"
+            }
         }
     }
 }
@@ -227,7 +236,7 @@ impl Error for Refusal {}
 pub(crate) fn result_of(answer: u32) -> Result<(), Refusal> {
     match answer {
         0 => Ok(()),
-        _ => Err(Refusal::from_number(answer).expect("the library answers 0 to 27")),
+        _ => Err(Refusal::from_number(answer).expect("the library answers 0 to 28")),
     }
 }
 
@@ -243,7 +252,7 @@ mod tests {
             assert_eq!(result_of(number), Err(refusal));
         }
         assert_eq!(result_of(0), Ok(()));
-        assert_eq!(Refusal::from_number(28), None);
+        assert_eq!(Refusal::from_number(29), None);
     }
 
     #[test]

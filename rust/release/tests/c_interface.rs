@@ -123,6 +123,29 @@ fn the_example_prints_who_vouches() {
 }
 
 #[test]
+fn the_example_prints_a_refresh() {
+    let example = C.compile("examples/refresh.c", "refresh");
+    let expected = "\
+        minute 480\n\
+        milk, price: drawn\n\
+        milk, offer: refused 17\n\
+        bread, price: refused 16\n\
+        bread, allergens: refused 12\n\
+        eggs, price: refused 15\n\
+        eggs, offer: refused 16\n\
+        eggs, origin: refused 10\n\
+        minute 600\n\
+        milk, price: drawn\n\
+        milk, offer: refused 17\n\
+        bread, price: drawn\n\
+        bread, allergens: refused 12\n\
+        eggs, price: refused 15\n\
+        eggs, offer: drawn\n\
+        eggs, origin: refused 10\n";
+    assert_eq!(printed(&example, &[]), expected);
+}
+
+#[test]
 fn every_call_from_c() {
     let calls = C.compile("rust/release/tests/calls.c", "calls_c");
     assert_eq!(printed(&calls, &SMALL_SHOP), "ok\n");

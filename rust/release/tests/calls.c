@@ -1,8 +1,8 @@
 /*
  * Calls each function through the header, in C and in C++: every refusal and
- * every rule by its name, dates, registers, NULL with length 0, the buffers, the
- * sheets and the two parts of an answer. The small shop comes in on standard input. Prints
- * what differs, or `ok`.
+ * every rule by its name, dates, registers, batches, NULL with length 0, the
+ * buffers, the sheets and the two parts of an answer. The small shop comes in on
+ * standard input. Prints what differs, or `ok`.
  */
 #include <stdio.h>
 #include <string.h>
@@ -355,6 +355,105 @@ static void vouched_reports(void) {
     expect("no entry", 255, out[1]);
 }
 
+#define ASKED 9
+
+/* Queries of every kind, with noise behind the entries that count. */
+static const uint8_t asked[ASKED * RELEASE_QUERY_BYTES] = {
+    0, 2, 0, 0, 2, 2, 9, 9, 0, 9, 9, 9, 9, 9, /* manager and clerk */
+    0, 1, 0, 0, 2, 2, 0, 0, 0, 0, 0, 0, 0, 0, /* the manager alone */
+    1, 0, 0, 0, 2, 2, 0, 0, 0, 0, 0, 0, 0, 0, /* a permission that isn't there */
+    0, 0, 0, 0, 2, 2, 0, 0, 0, 0, 0, 0, 0, 0, /* no entry */
+    0, 7, 0, 0, 2, 2, 0, 0, 0, 0, 0, 0, 0, 0, /* more than six */
+    0, 2, 0, 0, 4, 2, 0, 0, 0, 0, 0, 0, 0, 0, /* a user who isn't there */
+    0, 2, 0, 0, 0, 1, 0, 0, 0, 0, 0, 0, 0, 0, /* the manager twice */
+    0, 2, 0, 0, 2, 1, 0, 0, 0, 0, 0, 0, 0, 0, /* a clerk as a buyer */
+    0, 3, 0, 1, 1, 1, 2, 2, 0, 0, 0, 0, 0, 0, /* the manager as a buyer */
+};
+
+static void expect_answers(uint32_t minute, const uint8_t *expected, size_t room) {
+    uint8_t out[ASKED + 8];
+    size_t i;
+    memset(out, 77, sizeof out);
+    expect("batch", RELEASE_DONE,
+           release_batch(shop, SHOP, minute, 0, 0, DATE, asked, sizeof asked, out, room));
+    for (i = 0; i < sizeof out; i++) {
+        expect("answer to a query", i < ASKED ? expected[i] : 77, out[i]);
+    }
+}
+
+static void batches(void) {
+    const uint8_t by_day[ASKED] = {0, 17, 10, 12, 12, 13, 14, 15, 0};
+    const uint8_t early[ASKED] = {16, 17, 10, 12, 12, 13, 14, 15, 16};
+    size_t room;
+    size_t i;
+    for (room = ASKED; room <= ASKED + 8; room++) {
+        expect_answers(600, by_day, room);
+        expect_answers(480, early, room);
+    }
+    for (i = 0; i < ASKED; i++) {
+        const uint8_t *query = asked + RELEASE_QUERY_BYTES * i;
+        size_t length = RELEASE_ENTRY_BYTES * query[RELEASE_QUERY_COUNT];
+        if (length <= RELEASE_QUERY_BYTES - RELEASE_QUERY_ENTRIES) {
+            expect("the decision alone", by_day[i],
+                   release_decide(shop, SHOP, query[RELEASE_QUERY_PERMISSION], 600, 0, 0, DATE,
+                                  query + RELEASE_QUERY_ENTRIES, length));
+        }
+    }
+}
+
+/* The answer to the first queries, which writes nothing. */
+static uint32_t refused_batch(size_t base_len, uint32_t minute, size_t length, size_t room) {
+    uint8_t out[ASKED];
+    uint32_t refusal;
+    size_t i;
+    memset(out, 77, sizeof out);
+    refusal = release_batch(shop, base_len, minute, 0, 0, DATE, asked, length, out, room);
+    for (i = 0; i < sizeof out; i++) {
+        expect("a refused batch writes nothing", 77, out[i]);
+    }
+    return refusal;
+}
+
+static void batch_refusals(void) {
+    size_t length;
+    expect("1", RELEASE_REFUSAL_LENGTH, refused_batch(RELEASE_SHORTEST_BASE - 1, 1440, 13, 0));
+    expect("2", RELEASE_REFUSAL_LETTERS, refused_batch(SHOP - 1, 1440, 13, 0));
+    expect("11", RELEASE_REFUSAL_CONTEXT, refused_batch(SHOP, 1440, 13, 0));
+    expect("11", RELEASE_REFUSAL_CONTEXT, refused_batch(SHOP, 65536 + 600, sizeof asked, ASKED));
+    expect("11", RELEASE_REFUSAL_CONTEXT, refused_batch(SHOP, 1440, 0, 0));
+    expect("no query", RELEASE_DONE, refused_batch(SHOP, 600, 0, ASKED));
+    for (length = 1; length < sizeof asked; length++) {
+        if (length % RELEASE_QUERY_BYTES != 0) {
+            expect("28", RELEASE_REFUSAL_QUERIES, refused_batch(SHOP, 600, length, ASKED));
+        }
+    }
+    for (length = 0; length < ASKED; length++) {
+        expect("28", RELEASE_REFUSAL_QUERIES, refused_batch(SHOP, 600, sizeof asked, length));
+    }
+}
+
+/* As many queries as can be, and one more, all but the last about a permission that
+   isn't there. */
+static void longest_batch(void) {
+    static uint8_t queries[(RELEASE_MOST_QUERIES + 1) * RELEASE_QUERY_BYTES];
+    static uint8_t out[RELEASE_MOST_QUERIES + 1];
+    size_t longest = RELEASE_MOST_QUERIES * RELEASE_QUERY_BYTES;
+    size_t i;
+    memset(queries, 1, sizeof queries);
+    memcpy(queries + longest - RELEASE_QUERY_BYTES, asked, RELEASE_QUERY_BYTES);
+    memset(out, 77, sizeof out);
+    expect("28", RELEASE_REFUSAL_QUERIES,
+           release_batch(shop, SHOP, 600, 0, 0, DATE, queries, sizeof queries, out, sizeof out));
+    expect("a refused batch writes nothing", 77, out[0]);
+    expect("the most queries", RELEASE_DONE,
+           release_batch(shop, SHOP, 600, 0, 0, DATE, queries, longest, out, sizeof out));
+    for (i = 0; i < RELEASE_MOST_QUERIES - 1; i++) {
+        expect("10", RELEASE_REFUSAL_NO_PERMISSION, out[i]);
+    }
+    expect("the last query", RELEASE_DONE, out[i]);
+    expect("the byte behind", 77, out[i + 1]);
+}
+
 /* The shop with its three policies made the buyer's, of weights 1, 2 and 3. */
 static void conflicts(void) {
     const uint8_t list[] = {1, 0, 1, 1, 0, 2, 1, 1, 2, 7};
@@ -620,6 +719,7 @@ static void dates(void) {
     uint8_t base[SHOP];
     uint8_t sheet[RELEASE_SHEET_BYTES];
     uint32_t date;
+    uint8_t batched = 77;
     with_days(base, 2, 899, 901);
     expect("open", RELEASE_DONE, release_sheet_open(base, SHOP, 0, sheet));
     expect("sign", RELEASE_DONE, release_sheet_sign(base, SHOP, 0, 0, sheet));
@@ -630,7 +730,13 @@ static void dates(void) {
         expect("decide by", answer,
                release_decide_by(base, SHOP, 0, 600, 0, 0, date, list, 1, two, 4));
         expect("ask", answer, release_sheet_ask(base, SHOP, 600, 0, 0, date, sheet));
+        expect("batch", RELEASE_DONE,
+               release_batch(base, SHOP, 600, 0, 0, date, asked, RELEASE_QUERY_BYTES,
+                             &batched, 1));
+        expect("answer to a query", answer, batched);
     }
+    expect("11", RELEASE_REFUSAL_CONTEXT,
+           release_batch(base, SHOP, 600, 0, 0, 65536, asked, RELEASE_QUERY_BYTES, &batched, 1));
     expect("15 before 24", RELEASE_REFUSAL_MEMBERSHIP,
            release_decide(base, SHOP, 0, 600, 0, 0, 902, as_senior, 4));
     expect("24 of the second before 16 of the first", RELEASE_REFUSAL_OUT_OF_DATE,
@@ -688,6 +794,7 @@ static void nulls(void) {
     expect("no base", 1, release_conflicts(NULL, 0, out, sizeof out));
     expect("no base", 1, release_conflicts(NULL, 0, NULL, 0));
     expect("no base", 1, release_bound(NULL, 0, 0, 5, NULL, 0));
+    expect("no base", 1, release_batch(NULL, 0, 480, 0, 0, DATE, NULL, 0, NULL, 0));
     expect("no base", 1, release_sheet_sign(NULL, 0, 0, 0, sheet));
     expect("no base", 1, release_sheet_ask(NULL, 0, 480, 0, 0, DATE, sheet));
     expect("no base", 1, release_sheet_open(NULL, 0, 0, sheet));
@@ -706,6 +813,12 @@ static void nulls(void) {
     expect("no permission, no buffer", 0,
            release_report(least, sizeof least, 480, 0, 0, DATE, NULL, 0));
     expect("no conflict, no buffer", 0, release_conflicts(shop, SHOP, NULL, 0));
+    expect("no query, no buffer", 0,
+           release_batch(shop, SHOP, 480, 0, 0, DATE, NULL, 0, NULL, 0));
+    expect("no query, no context", 11,
+           release_batch(shop, SHOP, 1440, 0, 0, DATE, NULL, 0, NULL, 0));
+    expect("no buffer", 28,
+           release_batch(shop, SHOP, 480, 0, 0, DATE, asked, sizeof asked, NULL, 0));
 }
 
 /* Registers, groups and buffers that start anywhere, and bases too. */
@@ -728,6 +841,29 @@ static void unaligned_registers(void) {
                release_vouch_report(base + at, SHOP, 600, 0, 0, DATE, statements + at,
                                     sizeof trusted, 3, 3, out + at, RELEASE_PERMISSION_BYTES));
         expect("approvers", 2, out[at]);
+    }
+}
+
+/* Queries and answers that start anywhere, and bases too. */
+static void unaligned_batches(void) {
+    uint8_t base[SHOP + 8];
+    uint8_t queries[2 * RELEASE_QUERY_BYTES + 8];
+    uint8_t out[2 + 8];
+    size_t at;
+    for (at = 0; at < 8; at++) {
+        memcpy(base + at, shop, SHOP);
+        memset(queries, 255, sizeof queries);
+        memcpy(queries + at, asked, 2 * RELEASE_QUERY_BYTES);
+        memset(out, 77, sizeof out);
+        expect("batch", 0,
+               release_batch(base + at, SHOP, 600, 0, 0, DATE, queries + at,
+                             2 * RELEASE_QUERY_BYTES, out + at, 2));
+        expect("granted", 0, out[at]);
+        expect("refused", 17, out[at + 1]);
+        expect("the base's bytes as a query: user 1 as role 2", 0,
+               release_batch(base + at, SHOP, 600, 0, 0, DATE, base + at, RELEASE_QUERY_BYTES,
+                             out + at, 1));
+        expect("refused", 17, out[at]);
     }
 }
 
@@ -785,6 +921,9 @@ int main(void) {
     vouched_refusals();
     registers();
     vouched_reports();
+    batches();
+    batch_refusals();
+    longest_batch();
     conflicts();
     acting_conflicts();
     bounds();
@@ -800,6 +939,7 @@ int main(void) {
     nulls();
     unaligned();
     unaligned_registers();
+    unaligned_batches();
     if (differences == 0) {
         printf("ok\n");
     }

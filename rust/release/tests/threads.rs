@@ -4,9 +4,9 @@ use std::thread::{self, Builder};
 
 use release::example::SMALL_SHOP;
 use release::{
-    bound_bytes, check, check_parameter, conflicts_into, decide_by_bytes, decide_bytes,
+    batch_into, bound_bytes, check, check_parameter, conflicts_into, decide_by_bytes, decide_bytes,
     decide_vouched_bytes, report, report_by, report_vouched, Context, Entry, Refusal, Register,
-    Resolution, Rule, Sheet, Statement, Tried,
+    Resolution, Rule, Sheet, Statement, Tried, MOST_QUERIES, QUERY_BYTES,
 };
 
 const EARLY: Context = Context {
@@ -125,6 +125,68 @@ fn every_other_call_in_32_kib() {
     });
     let answers = [Ok(()), Err(Refusal::NoSignature)];
     assert_eq!(users, (answers, vec![Entry::new(1, 1)]));
+}
+
+/// As many queries as can be, each with six entries, about so many permissions in
+/// turn.
+fn most_queries(permissions: usize) -> Vec<u8> {
+    let query = |place: usize| {
+        let mut query = [0, 6, 0, 0, 1, 0, 2, 0, 3, 0, 4, 0, 5, 0];
+        query[0] = (place % permissions) as u8;
+        query[3] = (place % 8) as u8;
+        query
+    };
+    let queries: Vec<[u8; QUERY_BYTES]> = (0..MOST_QUERIES).map(query).collect();
+    queries.concat()
+}
+
+/// Early, on full bases too.
+#[test]
+fn a_batch_in_32_kib() {
+    const LITTLE: usize = 1 << 15;
+    let plans = twin::worst::all().into_iter();
+    let full = plans.map(|(_, plan)| plan.bytes());
+    for base in full.chain([SMALL_SHOP.to_vec(), out_of_reach().to_vec()]) {
+        for permissions in [1, 2, 16] {
+            let queries = most_queries(permissions);
+            let expected = queries.chunks_exact(QUERY_BYTES).map(|query| {
+                let decided = decide_bytes(&base, query[0].into(), EARLY, &query[2..]);
+                decided.err().map_or(0, |refusal| refusal.number() as u8)
+            });
+            let expected: Vec<u8> = expected.collect();
+            let base = base.clone();
+            let batched = within(LITTLE, move || {
+                let mut answers = [77; MOST_QUERIES + 1];
+                let done = batch_into(&base, EARLY, &queries, &mut answers);
+                (done, answers)
+            });
+            assert_eq!(batched.0, Ok(()));
+            let (answers, behind) = batched.1.split_at(MOST_QUERIES);
+            assert_eq!((answers, behind), (&expected[..], &[77][..]));
+        }
+    }
+}
+
+/// Each about the same queries, by one of two bases and with answers of its own.
+#[test]
+fn many_batches_at_once() {
+    let queries = [
+        [0, 2, 0, 0, 1, 1, 0, 0, 0, 0, 0, 0, 0, 0],
+        [0, 1, 0, 0, 1, 1, 0, 0, 0, 0, 0, 0, 0, 0],
+        [1, 2, 0, 0, 1, 1, 0, 0, 0, 0, 0, 0, 0, 0],
+    ];
+    thread::scope(|scope| {
+        for turn in 0..8 {
+            scope.spawn(move || {
+                let (base, granted) = [(SMALL_SHOP, 0), (out_of_reach(), 17)][turn % 2];
+                for _ in 0..200 {
+                    let mut answers = [77; 4];
+                    let done = batch_into(&base, EARLY, queries.as_flattened(), &mut answers);
+                    assert_eq!((done, answers), (Ok(()), [granted, 17, 10, 77]));
+                }
+            });
+        }
+    });
 }
 
 #[test]

@@ -2,6 +2,7 @@
 //! or the new ones, and bases with days turned. Every call that takes a base
 //! refuses them as the base check does.
 
+use compare::batches::agreed_batch;
 use compare::bounds::agreed_bound;
 use compare::builder::{BaseBuilder, LETTERS, OLD_LETTERS};
 use compare::changes::random_change;
@@ -10,6 +11,7 @@ use compare::lent::Lent;
 use compare::lists::LEGAL;
 use compare::lively::{full_base, lively_base};
 use compare::mornings::any_signing;
+use compare::queries::batch_for;
 use compare::questions::{any_context, any_permission, random_question};
 use compare::random::Random;
 use compare::rivals::rival_base;
@@ -100,6 +102,7 @@ fn answers(random: &mut Random, misshapen: &Misshapen) -> Vec<(Call, u8)> {
     let mut lent = Lent::noisy(random, 16 * 13);
     let trust = trust_for(random, base, &asked);
     let trust_in_0 = trust_in(random, base, at.date, 0);
+    let batch = batch_for(random, base, &asked);
     let mut answers = vec![
         (Call::Check, agreed_check(bytes)),
         (Call::Decide, agreed_decision(bytes, &asked)),
@@ -119,6 +122,7 @@ fn answers(random: &mut Random, misshapen: &Misshapen) -> Vec<(Call, u8)> {
             Call::ReportVouched,
             agreed_report_vouched(bytes, at, &trust_in_0, 0, &mut lent).refusal,
         ),
+        (Call::Batch, agreed_batch(bytes, &batch, &mut lent)),
     ];
     let kinds = [Call::Open, Call::Sign, Call::Ask];
     let calls = sheet_calls(random, misshapen);

@@ -2,6 +2,7 @@
 //! users had days, shows that each wrong reading of the rules would be noticed,
 //! and tries what is said of a changed weight, of trust and of a threshold.
 
+mod batched;
 mod bounds;
 mod checks;
 mod conflicts;
@@ -11,6 +12,7 @@ mod forms;
 mod listed;
 mod lists;
 mod parameters;
+mod queried;
 mod readings;
 mod reports;
 mod seen;
@@ -28,7 +30,7 @@ use std::time::{Duration, Instant};
 use seen::Seen;
 
 /// All of it is done in this time.
-const LONGEST: Duration = Duration::from_secs(180);
+const LONGEST: Duration = Duration::from_secs(300);
 
 #[test]
 fn seeded_comparison() {
@@ -44,6 +46,7 @@ fn seeded_comparison() {
     parameters::compare(&mut seen);
     forms::compare(&mut seen);
     vouched::compare(&mut seen);
+    batched::compare(&mut seen);
     let taken = start.elapsed();
     seen.print(taken);
     seen.expect_all();

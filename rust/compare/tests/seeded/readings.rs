@@ -1,11 +1,13 @@
 //! The wrong readings planted in the model: the first bases of the comparison
 //! show each of them, in every call whose answer it can change.
 
+use compare::batches::Batch;
 use compare::bounds::Changed;
 use compare::calls::{Decision, Report};
 use compare::changes::random_change;
 use compare::lent::Lent;
 use compare::lists::{illegal_list, LEGAL};
+use compare::queries::batch_for;
 use compare::questions::{context_in_range, random_question, Asked};
 use compare::random::Random;
 use compare::sheets::SheetCall;
@@ -14,7 +16,7 @@ use compare::vouchers::{any_requester, trust_for, trust_in};
 use model::{Context, Reading, Sheet};
 
 use crate::forms::{self, Misshapen};
-use crate::{bounds, conflicts, decisions, lists, parameters, reports, sheets, vouched};
+use crate::{batched, bounds, conflicts, decisions, lists, parameters, reports, sheets, vouched};
 
 /// How many of the misshapen bases each call is tried on, four ways each.
 const MISSHAPEN: usize = 20;
@@ -245,7 +247,28 @@ fn parameters_that_differ(reading: Reading) -> usize {
     found
 }
 
-/// Those of the decision, whose answers reports and an asking go by.
+/// How many batches have another answer, or leave another buffer, by the library than
+/// by the model's reading.
+fn batches_that_differ(reading: Reading) -> usize {
+    let mut found = 0;
+    let mut compare = |base: &[u8], batch: &Batch, mut lent: Lent| {
+        let mut by_model = lent.clone();
+        let model = batch.by_model(reading, base, by_model.buffer());
+        let library = batch.by_library(base, lent.buffer());
+        let differs = lent.first_difference(&by_model).is_some();
+        found += usize::from(library != u32::from(model) || differs);
+    };
+    batched::sound_bases(150, &mut compare);
+    forms::bases(MISSHAPEN, |random, misshapen| {
+        let asked = question(random, &misshapen);
+        let batch = batch_for(random, misshapen.base, &asked);
+        let lent = Lent::noisy(random, 30);
+        compare(misshapen.bytes, &batch, lent);
+    });
+    found
+}
+
+/// Those of the decision, whose answers reports, an asking and a batch go by.
 const OF_DECISIONS: &[&str] = &[
     "decisions",
     "reports",
@@ -254,6 +277,7 @@ const OF_DECISIONS: &[&str] = &[
     "reports by lists",
     "decisions vouched",
     "reports vouched",
+    "batches",
 ];
 
 /// Those and the conflict list.
@@ -266,6 +290,7 @@ const OF_CONTEXTS: &[&str] = &[
     "reports by lists",
     "decisions vouched",
     "reports vouched",
+    "batches",
 ];
 
 /// Those that look at who may act.
@@ -280,6 +305,7 @@ const OF_ACTING: &[&str] = &[
     "reports by lists",
     "decisions vouched",
     "reports vouched",
+    "batches",
 ];
 
 /// Those that check a base.
@@ -296,6 +322,7 @@ const OF_BASES: &[&str] = &[
     "reports by lists",
     "decisions vouched",
     "reports vouched",
+    "batches",
 ];
 
 /// The calls in which a reading shows.
@@ -314,6 +341,7 @@ fn shows(reading: Reading) -> &'static [&'static str] {
             "askings",
             "decisions by lists",
             "decisions vouched",
+            "batches",
         ],
         Reading::DaysForgotten => &["reports", "reports by lists", "reports vouched"],
         Reading::DaysAtSigning => &["signings"],
@@ -335,6 +363,7 @@ fn shows(reading: Reading) -> &'static [&'static str] {
         _ if Reading::WRONG_OF_VOUCHING.contains(&reading) => {
             &["decisions vouched", "reports vouched"]
         }
+        _ if Reading::WRONG_OF_BATCHES.contains(&reading) => &["batches"],
         _ => OF_DECISIONS,
     }
 }
@@ -356,6 +385,7 @@ fn expect(reading: Reading) {
         ("parameters", parameters_that_differ(reading)),
         ("decisions vouched", decisions_vouched_that_differ(reading)),
         ("reports vouched", reports_vouched_that_differ(reading)),
+        ("batches", batches_that_differ(reading)),
     ];
     println!("{reading:?}: {found:?}");
     let found = found.iter().filter(|(_, count)| *count > 0);
@@ -412,4 +442,9 @@ fn every_wrong_reading_of_dates_is_noticed() {
 #[test]
 fn every_wrong_reading_of_vouching_is_noticed() {
     Reading::WRONG_OF_VOUCHING.into_iter().for_each(expect);
+}
+
+#[test]
+fn every_wrong_reading_of_batches_is_noticed() {
+    Reading::WRONG_OF_BATCHES.into_iter().for_each(expect);
 }

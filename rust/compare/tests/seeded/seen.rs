@@ -1,6 +1,6 @@
 //! What the comparison saw: how often each answer and number came up, how far below
 //! their roles users acted, and what came of exclusions, resolution lists,
-//! withdrawals, codes tried, users' days and registers.
+//! withdrawals, codes tried, users' days, registers and queries.
 
 use std::io::Write;
 use std::time::Duration;
@@ -11,6 +11,7 @@ use compare::tally::Tally;
 
 use crate::dated::Dated;
 use crate::listed::Listed;
+use crate::queried::Queried;
 use crate::tried::Tried;
 use crate::trusted::Trusted;
 use crate::withdrawn::Withdrawn;
@@ -32,12 +33,13 @@ pub enum Call {
     Parameter,
     DecideVouched,
     ReportVouched,
+    Batch,
 }
 
-const CALLS: usize = 14;
+const CALLS: usize = 15;
 
 /// One past the last refusal's number.
-const REFUSALS: usize = 28;
+const REFUSALS: usize = 29;
 
 const NAMES: [&str; CALLS] = [
     "check",
@@ -54,6 +56,7 @@ const NAMES: [&str; CALLS] = [
     "parameter",
     "decide_vouched",
     "report_vouched",
+    "batch",
 ];
 
 /// The answers that each call can give.
@@ -80,6 +83,7 @@ const ANSWERS: [&[u8]; CALLS] = [
         0, 1, 2, 3, 4, 5, 6, 7, 8, 9, 25, 27, 10, 11, 12, 13, 14, 15, 24, 26, 16, 17,
     ],
     &[0, 1, 2, 3, 4, 5, 6, 7, 8, 9, 25, 27, 11, 13, 19],
+    &[0, 1, 2, 3, 4, 5, 6, 7, 8, 9, 11, 28],
 ];
 
 /// Those that a sheet can get that calls made: no user stands on it twice.
@@ -100,7 +104,7 @@ const GAINS: [(Gain, &str); 3] = [
 /// The fewest cases of each call: 1,200,000 and more in all.
 const FEWEST: [usize; CALLS] = [
     100_000, 150_000, 20_000, 40_000, 20_000, 100_000, 100_000, 100_000, 100_000, 150_000, 30_000,
-    200_000, 100_000, 15_000,
+    200_000, 100_000, 15_000, 25_000,
 ];
 
 #[derive(Default)]
@@ -125,6 +129,7 @@ pub struct Seen {
     pub tried: Tried,
     pub dated: Dated,
     pub trusted: Trusted,
+    pub queried: Queried,
 }
 
 impl Seen {
@@ -253,6 +258,7 @@ impl Seen {
             .chain(self.tried.lines())
             .chain(self.dated.lines())
             .chain(self.trusted.lines())
+            .chain(self.queried.lines())
             .chain([last])
             .collect();
         let text = format!("\n{}\n", lines.join("\n"));
@@ -287,6 +293,7 @@ impl Seen {
         self.tried.expect_all();
         self.dated.expect_all();
         self.trusted.expect_all();
+        self.queried.expect_all();
     }
 }
 
