@@ -104,6 +104,31 @@ pub fn full_base() -> BaseBuilder {
     }
 }
 
+/// The same where each of the 16 permissions has four of the clauses and four of the
+/// policies; all roles have weight.
+pub fn mixed_base() -> BaseBuilder {
+    let numbers = || (0..64).map(|i| (i % 16, i / 16));
+    BaseBuilder {
+        group_clauses: numbers()
+            .map(|(permission, turn)| GroupClause::new(permission, &mixed_clause(permission, turn)))
+            .collect(),
+        policies: numbers()
+            .map(|(p, turn)| Policy::new(7 - 2 * turn, p, 1 + (p + turn) % 5, 1, p))
+            .collect(),
+        ..full_base()
+    }
+}
+
+fn mixed_clause(permission: u8, turn: u8) -> [GroupCondition; 4] {
+    let role = 1 << ((permission + turn) % 8);
+    match turn {
+        0 => [(0, 2, 2), (1, 2, 10), (2, 2, 2), (3, 6, role)],
+        1 => [(0, 0, 2), (1, 0, 24), (1, 5, 33), (2, 2, 3)],
+        2 => [(0, 4, 4), (1, 2, 12), (1, 3, 60), (2, 5, 1)],
+        _ => [(0, 1, 6), (1, 2, 30), (2, 3, 4), (3, 6, role)],
+    }
+}
+
 /// The same where every user holds role 0 alone, and acts in the others as their
 /// senior.
 pub fn from_above() -> BaseBuilder {
@@ -234,6 +259,7 @@ mod tests {
     fn all_pass_the_check() {
         let bases = [
             full_base(),
+            mixed_base(),
             from_above(),
             rivals(),
             overrides(),

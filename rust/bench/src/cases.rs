@@ -1,11 +1,13 @@
 //! What is measured: a call on a base, by the library, the twin or the model.
 
+use compare::batches::{query, Query};
 use compare::questions::at_minute;
 use compare::shop::small_shop;
 use compare::trust::Trust;
 use model::{Context, Sheet};
 
 use crate::bases::*;
+use crate::batches::queries;
 use crate::registers::{trust, REQUESTER};
 use crate::worst;
 
@@ -31,6 +33,10 @@ pub enum Call {
     ReportVouched,
     /// Of a parameter, with so many roles.
     Parameter(u32, u32),
+    /// Of the case's queries.
+    Batch,
+    /// A decision for each of them.
+    Singles,
 }
 
 /// The resolution list of decisions and reports by one: all rules.
@@ -67,6 +73,7 @@ pub struct Case {
     pub group: Vec<u8>,
     /// For permission 0, holding the group.
     pub sheet: Sheet,
+    pub queries: Vec<Query>,
 }
 
 /// A buffer that suffices for every call.
@@ -98,6 +105,17 @@ impl Case {
 
     fn lent_trust(&self) -> (&[u8], u32) {
         (&self.trust.register, self.trust.threshold)
+    }
+
+    /// Writes an answer to each query, as a batch does. Inlined, it would add 20
+    /// instructions to every other call.
+    #[inline(never)]
+    fn singly(&self, out: &mut Buffer, decide: impl Fn(u32, &[u8]) -> u8) -> u64 {
+        for ([permission, count, entries @ ..], answer) in self.queries.iter().zip(out) {
+            let group = entries.get(..2 * usize::from(*count)).unwrap_or_default();
+            *answer = decide((*permission).into(), group);
+        }
+        0
     }
 
     fn by_library(&self, out: &mut Buffer) -> u64 {
@@ -139,6 +157,14 @@ impl Case {
             Call::Parameter(parameter, roles) => {
                 number(release::answers::parameter(parameter, roles))
             }
+            Call::Batch => {
+                let queries = self.queries.as_flattened();
+                release::answers::batch(&self.base, at, queries, out).into()
+            }
+            Call::Singles => {
+                let decide = release::answers::decide;
+                self.singly(out, |p, group| decide(&self.base, p, at, group) as u8)
+            }
         }
     }
 
@@ -172,6 +198,12 @@ impl Case {
                 ))
             }
             Call::Parameter(parameter, roles) => number(twin::parameter(parameter, roles)),
+            Call::Batch => {
+                twin::batch(&self.base, self.at, self.queries.as_flattened(), out).into()
+            }
+            Call::Singles => self.singly(out, |permission, group| {
+                twin::decide(&self.base, permission, self.at, group)
+            }),
         }
     }
 
@@ -205,6 +237,12 @@ impl Case {
                 ))
             }
             Call::Parameter(parameter, roles) => number(model::parameter(parameter, roles)),
+            Call::Batch => {
+                model::batch(&self.base, self.at, self.queries.as_flattened(), out).into()
+            }
+            Call::Singles => self.singly(out, |permission, group| {
+                model::decide(&self.base, permission, self.at, group)
+            }),
         }
     }
 }
@@ -213,6 +251,7 @@ fn number(answer: model::Answer) -> u64 {
     u64::from(answer.refusal) + 256 * u64::from(answer.count)
 }
 
+/// All cases but those of [`batches`].
 pub fn cases() -> Vec<Case> {
     let small = small_shop().bytes();
     let typical = typical_shop().bytes();
@@ -382,6 +421,34 @@ fn by_register() -> Vec<Case> {
         .collect()
 }
 
+/// 1,024 queries at once and one by one, about one permission or about all; and one
+/// query. To draw them takes a while.
+pub fn batches() -> Vec<Case> {
+    let six: Vec<[u8; 2]> = (0..6).map(|i| [i, i]).collect();
+    let bases = [
+        ("small shop", small_shop(), 1, vec![[0, 0], [2, 2]]),
+        ("typical shop", typical_shop(), 8, vec![[0, 0], [6, 3]]),
+        ("full base", full_base(), 1, six.clone()),
+        ("mixed base", mixed_base(), 16, six),
+    ];
+    let cases = bases.map(|(name, base, permissions, group)| {
+        let base = base.bytes();
+        let many = queries(&base, at(), permissions);
+        let one = vec![query(0, &group, 0)];
+        let of = |kind: &str, call: Call, queries: &[Query]| Case {
+            queries: queries.to_vec(),
+            ..case(&format!("{kind} {name}"), call, &base, &[])
+        };
+        [
+            of("batch", Call::Batch, &many),
+            of("batch singles", Call::Singles, &many),
+            of("batch of one", Call::Batch, &one),
+            of("batch single", Call::Singles, &one),
+        ]
+    });
+    cases.into_iter().flatten().collect()
+}
+
 /// A report on a base by a register.
 pub fn report_vouched(name: &str, base: &[u8], trust: Trust) -> Case {
     Case {
@@ -400,13 +467,19 @@ fn case(name: &str, call: Call, base: &[u8], group: &[u8]) -> Case {
         name: name.to_string(),
         call,
         base: base.to_vec(),
-        at: Context {
-            date: DATE.into(),
-            ..at_minute(600)
-        },
+        at: at(),
         trust: Trust::new(1, &[]),
         group: group.to_vec(),
         sheet: holding(group),
+        queries: Vec::new(),
+    }
+}
+
+/// The context of all cases.
+fn at() -> Context {
+    Context {
+        date: DATE.into(),
+        ..at_minute(600)
     }
 }
 
@@ -440,6 +513,25 @@ mod tests {
             let answers = ALL.map(|who| case.answer(who, &mut [0; 3 * 2_784]));
             assert!(answers.iter().all(|answer| *answer == answers[0]));
             assert_eq!(answers[0] % 256, refusal(&case), "{}", case.name);
+        }
+    }
+
+    /// A batch, and single calls about the same queries.
+    #[test]
+    fn a_batch_writes_what_single_calls_do() {
+        let cases = batches();
+        for pair in cases.chunks(2) {
+            let [batch, singles] = pair else {
+                panic!("they come in pairs");
+            };
+            assert_eq!(batch.queries, singles.queries);
+            let mut written = [0; 3 * 2_784];
+            assert_eq!(batch.answer(Who::Library, &mut written), 0);
+            for (case, who) in pair.iter().flat_map(|case| ALL.map(|who| (case, who))) {
+                let mut out = [0; 3 * 2_784];
+                assert_eq!(case.answer(who, &mut out), 0);
+                assert!(out == written, "{} by {who:?}", case.name);
+            }
         }
     }
 

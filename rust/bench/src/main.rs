@@ -29,6 +29,7 @@
 //! user 0, where there is one.
 
 mod bases;
+mod batches;
 mod cases;
 mod climb;
 mod climb_vouched;
@@ -78,6 +79,7 @@ fn main() {
 /// The cases with one of the words in their names, or all.
 fn chosen(words: &[&str]) -> Vec<Case> {
     let mut cases = cases();
+    cases.extend(cases::batches());
     cases.retain(|case| words.is_empty() || words.iter().any(|word| case.name.contains(word)));
     cases
 }
@@ -101,19 +103,23 @@ fn case_named(name: &str) -> Case {
             Err(_) => cases::report(name, &base),
         };
     }
-    let case = cases().into_iter().find(|case| case.name == name);
+    let cases = match name.starts_with("batch") {
+        true => cases::batches(),
+        false => cases(),
+    };
+    let case = cases.into_iter().find(|case| case.name == name);
     case.unwrap_or_else(|| panic!("there is no case {name}"))
 }
 
 /// A line a case: the three costs, library over twin and model over library.
 fn print_table(unit: &str, cases: &[Case], costs: Vec<[f64; 3]>) {
     println!(
-        "{unit:<24}{:>12}{:>12}{:>12}{:>14}{:>15}",
+        "{unit:<28}{:>12}{:>12}{:>12}{:>14}{:>15}",
         "library", "twin", "model", "library/twin", "model/library"
     );
     for (case, [library, twin, model]) in cases.iter().zip(costs) {
         println!(
-            "{:<24}{library:>12.0}{twin:>12.0}{model:>12.0}{:>14.2}{:>15.2}",
+            "{:<28}{library:>12.0}{twin:>12.0}{model:>12.0}{:>14.2}{:>15.2}",
             case.name,
             library / twin,
             model / library

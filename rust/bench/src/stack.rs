@@ -55,7 +55,7 @@ fn paint() {
 #[cfg(test)]
 mod tests {
     use super::*;
-    use crate::cases::{cases, report, Call};
+    use crate::cases::{batches, cases, report, Call};
     use crate::worst::gaps;
     use compare::shop::small_shop;
 
@@ -80,6 +80,17 @@ mod tests {
     fn a_report_takes_less_than_48_000_bytes() {
         let all = cases().into_iter();
         for case in all.filter(|case| is_report(case.call)) {
+            for who in [Who::Twin, Who::Library] {
+                let taken = bytes_by(&case, who);
+                assert!(taken < 48_000, "{}: {taken} by {who:?}", case.name);
+                call_within(1 << 16, &case, who);
+            }
+        }
+    }
+
+    #[test]
+    fn a_batch_takes_less_than_48_000_bytes() {
+        for case in batches() {
             for who in [Who::Twin, Who::Library] {
                 let taken = bytes_by(&case, who);
                 assert!(taken < 48_000, "{}: {taken} by {who:?}", case.name);

@@ -6,9 +6,11 @@ mod allowed;
 mod asked;
 mod back;
 mod base;
+mod batch;
 mod beside;
 mod bound;
 mod check;
+mod clause_masks;
 mod conditions;
 pub mod counts;
 #[cfg(test)]
@@ -36,6 +38,7 @@ use model::{Answer, Context};
 use resolution::Rules;
 use weights::{Setting, Weights};
 
+pub use batch::batch;
 pub use bound::bound;
 pub use parameter::parameter;
 pub use sheet::{sheet_ask, sheet_open, sheet_sign, sheet_withdraw};
