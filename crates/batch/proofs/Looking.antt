@@ -13,7 +13,7 @@ use lib.Dec.{ltb, eqb}
 use lib.ListN.{get_or}
 use Rattle.folds.specs.Below.{any_below}
 use Rattle.folds.specs.Sets.{in_set, set_below}
-use Rattle.folds.proofs.Bools.{or_left, or_right, met_or_not}
+use Rattle.folds.proofs.Bools.{or_right, met_or_not}
 use Rattle.folds.proofs.Numbers.{sum_none, sum_more, sum_le}
 use Rattle.folds.proofs.Sets.{in_none, in_or, in_and, in_added, in_below, same_members}
 use Rattle.folds.proofs.Tests.{split, any_none, any_next, any_found}
@@ -50,10 +50,7 @@ module _ (u : Users) (w g : List ℕ) where
       none : (r : ℕ) → (ltb r 8 && any_below 0 (λ i. eqb (entry_role g i) r)) ≡ false
       none r = rw (any_none (λ i. eqb (entry_role g i) r), and-false)
 
-  -- an entry that isn't unknown
-  pub user_there : (i : ℕ) → unknown_at u.user_count u.role_count g i ≡ false → entry_user g i < 24
-  user_there i h = lt_of_lt_of_le (ltb-true _ _ (not-false _ (or_left _ _ h))) u.few.0
-
+  -- the role of an entry that isn't unknown
   pub role_there : (i : ℕ) → unknown_at u.user_count u.role_count g i ≡ false → entry_role g i < 8
   role_there i h =
       lt_of_lt_of_le (ltb-true _ _ (not-false _ (or_right (not (ltb (entry_user g i) u.user_count)) _ h))) u.few.1

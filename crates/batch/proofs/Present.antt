@@ -3,7 +3,7 @@ use Prim.Native.Nat.{ℕ, ◌^◌, ◌<◌, ◌≤◌}
 use mathlib.Core.Bool.{Bool, true, false, cond, ◌&&◌}
 use mathlib.Core.List.{List}
 use mathlib.Core.Path.{◌≡◌, refl, sym, subst, ◌∙◌}
-use native.Mathlib.Nat.{lt_of_lt_of_le, le_trans, mul-le-mul_right}
+use native.Mathlib.Nat.{lt_of_lt_of_le}
 use native.Mathlib.Omega.{arith}
 use borrow.Author.Tests.{eqb-true, eq-eqb, ne_eqb}
 use lib.Dec.{eqb}
@@ -25,7 +25,6 @@ use Rattle.batch.specs.Asked.{Entries, WordOf}
 use Rattle.batch.specs.Steps.{UsersOf, Looked, word_at}
 use Rattle.batch.specs.declared.users.Users.{Users}
 use Rattle.batch.specs.declared.users.Seen.{Seen}
-use Rattle.batch.proofs.Looking.{sum_low}
 
 -- of n words with a user's bit each, a bit stands in two of them exactly where a user does
 module _ (n : ℕ) (user word : ℕ → ℕ) (twice : ℕ) (low : (i : ℕ) → i < n → user i < 24)
@@ -144,9 +143,6 @@ module _ {u : Users} {g b : List ℕ} {at : Context} (entries : Entries g) (are 
     pub sum_is : seen.sum ≡ sum_of (λ r. get_or w r 0) g
     unfolding sum_of
     sum_is = look.sum
-
-    pub sum_few : ((r : ℕ) → r < 8 → get_or w r 0 ≤ 40) → seen.sum ≤ 240
-    sum_few light = le_trans (sum_low u w g look light) (mul-le-mul_right 40 entries.few)
 
     -- the chain of refusals, of what was seen
     pub present_seen : cond (any_below 24 (in_set seen.twice)) 14
