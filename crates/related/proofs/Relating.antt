@@ -114,14 +114,21 @@ module _ (c : List ℕ) where
     with_conditions : (i : ℕ) → 0 < context_length c i → i < record_count contexts c
     with_conditions i h = lt_of_not-le (λ l. absurd (omega (arith, no_conditions i l)))
 
+    -- with n of them, at most 3, condition k is one of the table's
+    pub condition_inside : (i : ℕ) {k n : ℕ} → (n ≡ context_length c i) × (n ≤ 3) → k < n →
+        (16 * i + 16 ≤ length c) × (k < 3)
+    condition_inside i {k} {n} (is, few) l =
+        let inside = with_conditions i (omega (arith, is)) in
+        (omega arith, omega arith)
+
   module _ (fine : contexts_bad c ≡ false) (whole : length c ≡ 16 * record_count contexts c) where
     -- a clause of the table lies in it, and has at most 3 conditions
     pub clause_inside : (i : ℕ) → i < record_count contexts c → (16 * i + 16 ≤ length c) × (context_length c i ≤ 3)
     clause_inside i l = (omega arith, (context_fine 0 0 c i fine l).at_most)
 
     -- and so has one with a condition k
-    pub condition_inside : (i k : ℕ) → k < context_length c i → (16 * i + 16 ≤ length c) × (k < 3)
-    condition_inside i k l =
+    pub condition_in_table : (i k : ℕ) → k < context_length c i → (16 * i + 16 ≤ length c) × (k < 3)
+    condition_in_table i k l =
         let (inside, few) = clause_inside i (with_conditions whole i (omega arith)) in
         (inside, omega arith)
 
