@@ -1,7 +1,7 @@
 -- Steps of the loops that stood where chains stand now; docs/PORT.md names them.
-use Prim.Native.Nat.{ℕ, ◌+◌, ◌-◌, ◌*◌, ◌<◌, ◌≤◌}
-use mathlib.Core.Bool.{Bool}
-use mathlib.Core.Path.{◌≡◌, refl, ap, ◌∙◌}
+use Prim.Native.Nat.{ℕ, ◌+◌, ◌-◌, ◌*◌, ◌^◌, ◌<◌, ◌≤◌}
+use mathlib.Core.Bool.{Bool, true, not}
+use mathlib.Core.Path.{◌≡◌, refl, sym, ap, ◌∙◌}
 use mathlib.Core.Logic.{⊎_elim}
 use mathlib.Core.List.{List}
 use native.Mathlib.Nat.{lt_of_lt_of_le, le_trans, mul-le-mul_left, mul-le-mul_right}
@@ -12,14 +12,17 @@ use lib.Bits.{bit_and, bit_or}
 use lib.Dec.{eqb, ltb}
 use lib.ListN.{length, get_or, set, replicate, length-set, get_or-replicate, get_or-eq_default}
 use lib.Seq.{get_or-set_same, get_or-set_other}
-use Rattle.folds.proofs.Bools.{met_or_not}
+use Rattle.folds.specs.Sets.{in_set}
+use Rattle.folds.proofs.Bools.{met_or_not, and_left}
 use Rattle.folds.proofs.Lists.{stored}
+use Rattle.folds.proofs.Sets.{in_set_below}
 use Rattle.decision.specs.Conditions.{role_num}
 use Rattle.masks.specs.declared.asked.Asked.{Asked}
 use Rattle.masks.specs.Asked.{Room}
-use Rattle.masks.specs.Clauses.{StruckAll, Filled}
+use Rattle.masks.specs.Clauses.{met, StruckAll, AllBut, NarrowedAll, Filled}
 use Rattle.masks.specs.Rows.{Joined, RowFor, Rows}
 use Rattle.masks.specs.Sets.{RoleCounts, Doubled, NumbersFit}
+use Rattle.masks.proofs.Narrowing.{clause_done}
 
 -- the first v of the masks are doubled
 pub record Doubling (half without with v : ℕ) (was masks : List ℕ) : Type 0 where
@@ -193,3 +196,26 @@ room_after r h = record {
   sums = rw h.sums.size r.sums;
   few = r.few;
 }
+
+-- the loop over the clauses, for as many masks of sums as are asked for: those of `rest` are left
+pub record Turn (k : List ℕ) (own count : ℕ) (s₀ : List ℕ) (rest : ℕ) (asked : Asked) (s : List ℕ) : Type 0 where
+  pub room : RoomAll count asked s
+  pub size : length s ≡ length s₀
+  pub within : (b : ℕ) → in_set rest b ≡ true → in_set own b ≡ true
+  pub narrowed : NarrowedAll k own rest count asked s
+
+module _ {k : List ℕ} {own count : ℕ} {s₀ : List ℕ} {rest : ℕ} {was : Asked} {s : List ℕ}
+    (turn : Turn k own count s₀ rest was s) where
+  -- a clause of the rest is one of the table
+  pub in_table : {c i : ℕ} → own < 2 ^ c → in_set rest i ≡ true → i < c
+  in_table {c} {i} small has = in_set_below c own i small (turn.within i has)
+
+  -- one clause further
+  pub next : {i others left : ℕ} {asked : Asked} {s' : List ℕ} → in_set rest i ≡ true → AllBut own i others
+      → AllBut rest i left → StruckAll count (met k i) others was s asked s' → Turn k own count s₀ left asked s'
+  next {i} has o l struck = record {
+    room = room_after turn.room struck;
+    size = struck.sums.size ∙ turn.size;
+    within = λ b h. turn.within b (and_left (in_set rest b) (not (eqb b i)) (sym (l.members b) ∙ h));
+    narrowed = clause_done k own rest i has o l turn.narrowed struck;
+  }

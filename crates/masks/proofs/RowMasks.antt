@@ -1,10 +1,11 @@
 -- The rows: what the clauses of a number of entries are.
-use Prim.Native.Nat.{ℕ, suc, ◌+◌, ◌-◌, ◌*◌, ◌<◌, ◌≤◌}
+use Prim.Native.Nat.{ℕ, ◌+◌, ◌-◌, ◌*◌, ◌<◌, ◌≤◌}
 use mathlib.Core.Bool.{◌&&◌, or-true}
 use mathlib.Core.Path.{◌≡◌, refl, sym, ap, ◌∙◌}
 use mathlib.Core.Logic.{⊎_elim}
 use mathlib.Core.List.{List, ◌++◌}
 use native.Mathlib.Nat.{le_trans, mul-le-mul_left, mul-le-mul_right}
+use native.Mathlib.Numerals.{add-one}
 use native.Mathlib.Omega.{arith}
 use borrow.Author.Tests.{eqb-true, eqb-false}
 use lib.Bits.{bit_and, bit_or}
@@ -22,13 +23,13 @@ use Rattle.std.proofs.Common.{length-drop}
 use Rattle.masks.specs.Rows.{Joined, RowFor, Rows}
 
 -- at first no mask is joined
-joined_none : (from : ℕ) {masks : List ℕ} → Joined from from masks 0
+pub joined_none : (from : ℕ) {masks : List ℕ} → Joined from from masks 0
 joined_none from = record { has = λ q b l m h. absurd (omega arith) }
 
 -- one mask more
-joined_next : {q all : ℕ} {masks : List ℕ} → Joined 0 q masks all
-    → Joined 0 (suc q) masks (bit_or all (get_or masks q 0))
-joined_next {q} {all} {masks} j = record {
+pub joined_next : {from q all : ℕ} {masks : List ℕ} → Joined from q masks all
+    → Joined from (q + 1) masks (bit_or all (get_or masks q 0))
+joined_next {from} {q} {all} {masks} j = record {
   has = λ p b l m h. ⊎_elim
       (λ t. let e : p ≡ q = eqb-true p q t in in_or all (get_or masks q 0) b ∙ rw (← e, h) (or-true (in_set all b)))
       (λ t. let d = eqb-false p q t in in_or all (get_or masks q 0) b ∙ rw (j.has p b l (omega (arith, d)) h))
@@ -40,7 +41,7 @@ pub joined_all : (masks : List ℕ) {all : ℕ} → all ≡ fold (λ all mask. b
     → Joined 0 (length masks) masks all
 joined_all masks e =
     rw e (fold_steps (λ q all. Joined 0 q masks all) (λ all mask. bit_or all mask) 0 masks 0 (joined_none 0)
-    (λ q all l j. joined_next j))
+    (λ q all l j. rw add-one at (joined_next j)))
 
 -- those of a part of a list
 pub joined_front : (masks : List ℕ) {end all : ℕ} → end ≤ length masks

@@ -38,7 +38,7 @@ chosen false z o own mask b e = and_assoc o z (in_set mask b)
 
 module _ (own : ℕ) (roles : List ℕ) (start end : ℕ) where
   -- at first all
-  reach_none : WithinReach own roles start end end own
+  pub reach_none : WithinReach own roles start end end own
   unfolding spared_from
   reach_none = record {
     members = λ b. rw (all_each (spared_from roles start end b) end (λ r l. rw (lt-ltb r end l)))
@@ -46,12 +46,12 @@ module _ (own : ℕ) (roles : List ℕ) (start end : ℕ) where
   }
 
   -- one role further
-  reach_next : {r reached other : ℕ} → end ≤ r → WithinReach own roles start end r reached
+  pub reach_next : {r reached other : ℕ} → end ≤ r → WithinReach own roles start end r reached
       → other ≡ cond (in_set start r) own (get_or roles r 0)
-      → WithinReach own roles start end (suc r) (bit_and reached other)
+      → WithinReach own roles start end (r + 1) (bit_and reached other)
   unfolding spared_from spared all_below
   reach_next {r} {reached} h w e = record {
-    members = λ b. in_and reached _ b ∙ rw (w.members b, e, le-ltb r end h)
+    members = λ b. in_and reached _ b ∙ rw (w.members b, e, add-one, le-ltb r end h)
         (chosen (in_set start r) (all_below r (spared_from roles start end b)) (in_set own b) own
         (get_or roles r 0) b refl);
   }
@@ -67,8 +67,8 @@ reached_all {own} {start} {end} {roles = roles} {without} h l e f =
     rw (f, e, between_to_end without end 8 (omega arith))
     (rw s at (fold_steps (λ i reached. WithinReach own roles start end (end + i) reached)
     (λ reached mask. bit_and reached mask) 0 (drop end without) own (rw add-zero (reach_none own roles start end))
-    (λ i reached m w. rw (add-suc end i) (reach_next own roles start end (omega arith) w
-    (get_or-drop end without i 0 ∙ h.each (end + i) (omega arith))))))
+    (λ i reached m w. rw (add-suc end i) (rw add-one at (reach_next own roles start end {r = end + i} (omega arith) w
+    (get_or-drop end without i 0 ∙ h.each (end + i) (omega arith)))))))
 
 -- the masks of the sets below 2 ^ n, as far as the roles below n go, of clauses within reach
 pub record MarkedTo (own : ℕ) (roles w : List ℕ) (start end n : ℕ) (sets : List ℕ) : Type 0 where

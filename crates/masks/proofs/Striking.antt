@@ -63,6 +63,11 @@ module _ {count others : ℕ} where
       → ((x : ℕ) → x < count → f x ≡ g x) → Struck count g others was now
   struck_as s h = record { size = s.size; members = λ x b l. rw (← h x l) (s.members x b l) }
 
+  -- fewer masks
+  pub struck_fewer : {more : ℕ} {f : ℕ → Bool} {was now : List ℕ} → count ≤ more → Struck more f others was now
+      → Struck count f others was now
+  struck_fewer h s = record { size = s.size; members = λ x b l. s.members x b (lt_of_lt_of_le l h) }
+
 -- the masks before `low`, and those from `end` on
 module _ {others : ℕ} {was part : List ℕ} where
   struck_front : {low : ℕ} → low ≤ length was → part ≡ map (λ mask. bit_and mask others) (take low was)
