@@ -59,6 +59,16 @@ pub record Telling (k : List ℕ) (p : ℕ) (w : List ℕ) (s : Weighed) (start 
   pub nobody : start.count ≡ 0 → get_or rows 0 0 ≡ 0
   pub past : (n : ℕ) → 6 < start.count + n → get_or rows n 0 ≡ 0
 
+-- the last row that isn't empty, or 0 where there may be none
+pub record LastOrNone (rows : List ℕ) (last : ℕ) : Type 0 where
+  pub within : last ≤ 6
+  pub past : (n : ℕ) → last < n → n < 7 → get_or rows n 0 ≡ 0
+  pub some : 0 < last → get_or rows last 0 ≡ 0 → ⊥
+
+-- such is one that isn't empty
+pub last_or_none : {rows : List ℕ} {last : ℕ} → IsLast rows last → LastOrNone rows last
+last_or_none r = record { within = r.within; past = r.past; some = λ h. r.some }
+
 -- nothing is found where the condition never holds
 pub fewest_none : {sets w : List ℕ} {placed last : ℕ} {condition : ℕ → ℕ → ℕ → Bool} {bytes : List ℕ} →
     ((g : List Entry) → Rises sets w 0 g → length g ≤ last →
@@ -120,7 +130,7 @@ module _ {k : List ℕ} {p : ℕ} {w : List ℕ} {s : Weighed} {start : Placed} 
   no_row few empty = fewest_none
       (λ g rises l. sym (same_test _ g rises (omega arith)) ∙ empty_row (length g) _ _ (empty (length g) (omega arith)))
 
-  module _ {sets : List ℕ} {last n : ℕ} {bytes : List ℕ} (few : start.count ≤ 6) (is_last : IsLast rows last)
+  module _ {sets : List ℕ} {last n : ℕ} {bytes : List ℕ} (few : start.count ≤ 6) (is_last : LastOrNone rows last)
       (a : Answered sets w start.sum (by_masks rows by_sum by_set) last n bytes) where
     -- a group of so many entries is no larger than six
     six : (g : List Entry) → length g ≡ n → Meets sets w start.sum (by_masks rows by_sum by_set n) g →

@@ -20,8 +20,8 @@ use Rattle.masks.specs.Clauses.{clauses_of}
 use Rattle.masks.specs.Masks.{Masks}
 use Rattle.masks.specs.Masks as masks
 use Rattle.masks.proofs.Telling.{bare}
-use Rattle.fewest.specs.Search.{holds_with, WeighedBelow, IsLast, Seeking}
-use Rattle.fewest.proofs.Asked.{Telling, fewest_none}
+use Rattle.fewest.specs.Search.{holds_with, WeighedBelow, Seeking}
+use Rattle.fewest.proofs.Asked.{Telling, LastOrNone, fewest_none}
 
 module _ {k w : List ℕ} {start : Placed} {d : ℕ} {counts : List ℕ} (s : Seeking k w start d counts) where
   -- all sums are at most 240
@@ -78,13 +78,18 @@ module _ {k w : List ℕ} {start : Placed} {d : ℕ} {counts : List ℕ} (s : Se
       telling {p} is = record { tells = m.tells p is; nobody = λ z. m.none 0 (omega arith); past = m.past }
 
       -- the last row asks for at most six entries in all
-      last_few : {last : ℕ} → IsLast rows last → start.count + last ≤ 6
+      last_few : {last : ℕ} → LastOrNone rows last → start.count + last ≤ 6
       last_few {last} r = ⊎_elim
           (λ h. leb-true _ _ h)
-          (λ h. absurd (r.some (m.past last (leb-false _ _ h))))
+          (λ h.
+          let l = leb-false _ _ h in
+          ⊎_elim
+          (λ z. absurd (omega (arith, s.few)))
+          (λ some. absurd (r.some some (m.past last l)))
+          (eq-zero-or-pos last))
           (met_or_not (leb (start.count + last) 6))
 
-      pub last_sum : {last : ℕ} → IsLast rows last → start.sum + last * 40 ≤ 255
+      pub last_sum : {last : ℕ} → LastOrNone rows last → start.sum + last * 40 ≤ 255
       last_sum r = let a = s.sum in omega (arith, last_few r)
 
   -- without a clause nothing is found

@@ -1,6 +1,6 @@
 -- The masks tell the permission's condition, so the search by masks finds the answer.
 use Rattle.std.proofs.Common.{refl, sym, ◌∙◌}
-use Rattle.fewest.proofs.Asked.{no_row, fewest_is}
+use Rattle.fewest.proofs.Asked.{no_row, last_or_none, fewest_is}
 use Rattle.fewest.proofs.Seek.{masks_ready, telling, no_clause, no_weight}
 use Rattle.fewest.proofs.fewest.Goals as goal
 use Rattle.fewest.proofs.fewest.Goals.{then-own-eq0-via-then-own-eq0}
@@ -41,7 +41,7 @@ returns g c =
     let (users, answered) = c.search.ensures in (
       users,
       λ sets next. record {
-        answered = fewest_is told c.weighed-weighed.ensures c.requires.0.few c.in_ok-last.ensures
+        answered = fewest_is told c.weighed-weighed.ensures c.requires.0.few (last_or_none c.in_ok-last.ensures)
             (answered sets next).answered;
         some = (answered sets next).some;
       },
