@@ -5,6 +5,7 @@ pub mod Choosing
 pub mod Happening
 pub mod Holding
 pub mod Lasting
+pub mod Loops
 pub mod Making
 pub mod Passing
 pub mod Standing
