@@ -138,14 +138,16 @@ module _ (rules b : List ℕ) (at : Context) (p : ℕ) (ok : refusal_of b ≡ 0)
       bytes = f.bytes;
     }
 
-    part_none : {n : ℕ} {bytes : List ℕ} →
+    -- where nothing is found the part has no group
+    pub part_none : {n : ℕ} {bytes : List ℕ} →
         Answered sets w 0 (holds_with (table_of b clauses) p nobody) 6 n bytes → n ≡ 7 →
         PartFor 0 (decision_by rules b at) p (0 ∷ replicate 12 255)
     part_none a e = part_is
         (shown_none (table_of b clauses) p (tables_of sets w acting are) few_roles granted
         (of_decision rules b at p) is a e)
 
-    part_found : {n : ℕ} {bytes : List ℕ} →
+    -- or else the entries found
+    pub part_found : {n : ℕ} {bytes : List ℕ} →
         Answered sets w 0 (holds_with (table_of b clauses) p nobody) 6 n bytes → n ≤ 6 →
         PartFor 0 (decision_by rules b at) p (n ∷ bytes)
     part_found a few = part_is
