@@ -47,7 +47,7 @@ module _ {l m k : List ℕ} {at next behind : ℕ} where
   entry_written user role a b = joined a b
 
 -- what a text is written into keeps its length
-same_size : {xs l m : List ℕ} {at next : ℕ} → Written xs l at next m → length m ≡ length l
+pub same_size : {xs l m : List ℕ} {at next : ℕ} → Written xs l at next m → length m ≡ length l
 same_size {xs} {l} {at = at} w = ap length w.bytes ∙ length-sets l at xs
 
 -- where n bytes more than a text's have room, they have it behind the text
